@@ -1,0 +1,7 @@
+use Rattle.tn_isa.specs.Mnemonics.{mnemonic_named}
+use Rattle.tn_isa.proofs.Naming.{found-named}
+use Rattle.tn_isa.proofs.mnemonics.mnemonic_of.Goals as goal
+
+pub returns-clause-found : goal.returns-clause-found
+unfolding mnemonic_named
+returns-clause-found c = rw c.first_named.ensures (found-named c.args.word.now)
