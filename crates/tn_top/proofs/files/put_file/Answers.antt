@@ -1,0 +1,42 @@
+use Rattle.std.proofs.Common.{Result, Ok, Err, OnOk, OnErr, subst, sym, ◌∙◌}
+use Rattle.tn_top.specs.Outcomes.{Told, Holds}
+use Rattle.tn_top.proofs.Puts.{refused-create, refused-write, written, refused-close}
+use Rattle.tn_top.proofs.files.put_file.Goals as goal
+
+on_err_always : {T E P : Type 0} (r : Result T E) → P → OnErr r P
+on_err_always (Ok x) p = tt
+on_err_always (Err e) p = p
+
+on_ok_more : {T E P Q : Type 0} (r : Result T E) → OnOk r P → (P → Q) → OnOk r Q
+on_ok_more (Ok x) p f = f p
+on_ok_more (Err e) p f = tt
+
+on_err_more : {T E P Q : Type 0} (r : Result T E) → OnErr r P → (P → Q) → OnErr r Q
+on_err_more (Ok x) p f = tt
+on_err_more (Err e) p f = f p
+
+pub returns-in_err-create-clause-err : goal.returns-in_err-create-clause-err
+returns-in_err-create-clause-err g c =
+    on_err_always c.from_residual.result (refused-create c.args.name.now c.args.bytes.now (g.S.Store.stored c.args.store.now).files (g.S.Store.stored c.create.new.self).files c.in_err-create.ensures.creates.err.0)
+
+pub returns-in_err-write-clause-err : goal.returns-in_err-write-clause-err
+returns-in_err-write-clause-err g c =
+    let before = g.S.Store.stored c.args.store.now in
+    let made = g.S.Store.stored c.create.new.self in
+    on_err_always c.from_residual-in_err-write.result (refused-write c.args.name.now c.args.bytes.now before.files made.files (g.S.Store.stored c.write.new.self).files made.opened c.in_ok-create.ensures.creates.ok.0 c.in_ok-create.ensures.creates.ok.1 c.in_err-write.ensures.writes.err)
+
+pub returns-clause-ok : goal.returns-clause-ok
+returns-clause-ok g c =
+    let before = g.S.Store.stored c.args.store.now in
+    let made = g.S.Store.stored c.create.new.self in
+    let full = g.S.Store.stored c.write.new.self in
+    let all = written c.args.name.now c.args.bytes.now before.files made.files full.files made.opened c.in_ok-create.ensures.creates.ok.0 c.in_ok-create.ensures.creates.ok.1 c.in_ok-write.ensures.writes.ok in
+    on_ok_more c.close.result c.close.ensures.closes.ok (λ e. subst (λ f. Told before.files f (Holds c.args.name.now c.args.bytes.now)) (sym e) all)
+
+pub returns-clause-err : goal.returns-clause-err
+returns-clause-err g c =
+    let before = g.S.Store.stored c.args.store.now in
+    let made = g.S.Store.stored c.create.new.self in
+    let full = g.S.Store.stored c.write.new.self in
+    let all = written c.args.name.now c.args.bytes.now before.files made.files full.files made.opened c.in_ok-create.ensures.creates.ok.0 c.in_ok-create.ensures.creates.ok.1 c.in_ok-write.ensures.writes.ok in
+    on_err_more c.close.result c.close.ensures.closes.err (λ e. refused-close c.args.name.now c.args.bytes.now before.files full.files (g.S.Store.stored c.close.new.self).files full.opened (c.in_ok-write.ensures.writes.opened ∙ c.in_ok-create.ensures.creates.ok.1) all e)

@@ -1,0 +1,8 @@
+use Rattle.std.proofs.Common.{◌≡◌, map, take}
+use Rattle.tn_top.specs.FlatSource.{code_of}
+use Rattle.tn_top.specs.Instructions.{instruction_of}
+use Rattle.tn_top.proofs.flat_source.code_of.Given as goal
+
+-- the code so far is that of the instructions so far
+abbrev pub invariant-loop-instruction : goal.invariant-loop-instruction
+invariant-loop-instruction l = l.code.items ≡ code_of (map instruction_of (take l.instruction-index l.instructions))

@@ -1,0 +1,60 @@
+-- What is answered on given words and files, where nothing fails and memory suffices.
+use Rattle.std.specs.Prelude.{ℕ, ℤ, nat_lt, length, List, [], Option, Some, None, codes, if◌then◌else◌}
+use Rattle.tn_isa.specs.declared.functions.Fun.{Fun}
+use Rattle.tn_io.specs.FileLists.{Files, held}
+use Rattle.tn_top.specs.FlatSource.{flat_of, code_of}
+use Rattle.tn_top.specs.Words.{Asked, flat, asked}
+use Rattle.tn_top.specs.declared.statuses.Status.{Status}
+use Rattle.tn_top.specs.declared.statuses.Status.TheVariants as status
+
+-- usage: the words spell no command; unread: this file isn't there; fault: this file isn't what it
+-- has to be; limit: this limit is passed, by this count; done: with a file written, if the command
+-- writes one, and a text printed
+pub data Answer : Type 0 where
+  usage : Answer
+  unread : (file : List ℕ) → Answer
+  fault : (file : List ℕ) → Answer
+  limit : (word : List ℕ) (count : ℕ) → Answer
+  done : (written : Option (List ℕ × List ℕ)) (printed : List ℕ) → Answer
+
+-- what a file gives as a flat source: nothing, since it is missing, too long, or no list of plain
+-- lines; or code
+pub data Coded : Type 0 where
+  missing : Coded
+  too_long : Coded
+  not_plain : Coded
+  code : (bytes : List ℕ) → Coded
+
+-- the code of a text, where it is a flat source
+abbrev pub coded_lines : Option (List (Fun × ℤ)) → Coded
+coded_lines None = not_plain
+coded_lines (Some instructions) = code (code_of instructions)
+
+-- the code of a file of at most 1,048,576 bytes
+unfoldable pub coded : Option (List ℕ) → Coded
+coded None = missing
+coded (Some text) = if nat_lt 1048576 (length text) then too_long else coded_lines (flat_of text)
+
+-- the answer where a file gives this and its code goes to another
+abbrev pub flat_answer : List ℕ → List ℕ → Coded → Answer
+flat_answer source target missing = unread source
+flat_answer source target too_long = limit (codes "file") 1048577
+flat_answer source target not_plain = fault source
+flat_answer source target (code bytes) = done (Some (target, bytes)) []
+
+-- the answer to what was asked
+abbrev pub answer_to : Option Asked → Files → Answer
+answer_to None files = usage
+answer_to (Some (flat source target)) files = flat_answer source target (coded (held files source))
+
+-- the answer to words
+abbrev pub answer : List (List ℕ) → Files → Answer
+answer words files = answer_to (asked words) files
+
+-- the status that an answer has
+abbrev pub status_of : Answer → Status
+status_of usage = status.Usage
+status_of (unread file) = status.ReadFault
+status_of (fault file) = status.Fault
+status_of (limit word count) = status.Limit
+status_of (done written printed) = status.Done

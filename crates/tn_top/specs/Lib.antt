@@ -1,0 +1,7 @@
+pub mod Statuses
+pub mod Words
+pub mod FlatSource
+pub mod Answers
+pub mod Outcomes
+pub mod Flat
+pub mod Instructions

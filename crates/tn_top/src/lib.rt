@@ -1,0 +1,12 @@
+//! The commands of `tn`, over any store of files and any outputs.
+#![tactic(auto)]
+
+mod commands;
+mod files;
+mod flat_source;
+mod instructions;
+mod statuses;
+mod words;
+
+pub use commands::run;
+pub use statuses::{Status, code};
