@@ -6,7 +6,7 @@ mod functions;
 mod mnemonics;
 
 pub use functions::{Fun, fun_code, fun_of};
-pub use mnemonics::{Mnemonic, mnemonic_name, mnemonic_of};
+pub use mnemonics::{Mnemonic, mnemonic_name, mnemonic_of, mnemonic_spelled};
 
 #[cfg(test)]
 mod tests {
@@ -42,6 +42,7 @@ mod tests {
             assert!(rt; mnemonic.is_some() == named, "{name}");
             assert!(rt; !named || mnemonic == Some(Mnemonic::Direct(fun)), "{name}");
         }
+        assert!(rt; mnemonic_spelled(b"ldc") == Some(Mnemonic::Direct(Fun::Ldc)));
         assert!(rt; mnemonic_of("LDC").is_none());
         assert!(rt; mnemonic_of("ld").is_none());
         assert!(rt; mnemonic_of("").is_none());

@@ -31,8 +31,17 @@ const MNEMONICS: [Mnemonic; 13] = [
 
 /// The instruction that a word of a source names. `None` exactly where the word is no mnemonic;
 /// `pfix`, `nfix` and `opr` are none.
-#[tactic(auto, unfolding(crate::specs::Mnemonics::mnemonic_named))]
 pub fn mnemonic_of(word: &str) -> Option<Mnemonic>
+    ensures found { IfSome result (λ m. Contains mnemonics m × (name_of m ≡ word.now)) }
+    ensures none { IfNone result (All (λ m. name_of m ≢ word.now) mnemonics) }
+    ensures value { result ≡ mnemonic_named word.now }
+{
+    mnemonic_spelled(word.as_bytes())
+}
+
+/// The instruction that the bytes of a word name, as `mnemonic_of` finds it.
+#[tactic(auto, unfolding(crate::specs::Mnemonics::mnemonic_named))]
+pub fn mnemonic_spelled(word: &[u8]) -> Option<Mnemonic>
     ensures found { IfSome result (λ m. Contains mnemonics m × (name_of m ≡ word.now)) }
     ensures none { IfNone result (All (λ m. name_of m ≢ word.now) mnemonics) }
     ensures value { result ≡ mnemonic_named word.now }
@@ -41,10 +50,13 @@ pub fn mnemonic_of(word: &str) -> Option<Mnemonic>
 }
 
 /// The first instruction of a table that the word names.
-fn first_named(table: &[Mnemonic], word: &str) -> Option<Mnemonic>
+fn first_named(table: &[Mnemonic], word: &[u8]) -> Option<Mnemonic>
     ensures { result ≡ find (λ m. bytes_eq (name_of m) word.now) table.now }
 {
-    table.iter().copied().find(|m| mnemonic_name(*m) == word)
+    table
+        .iter()
+        .copied()
+        .find(|m| mnemonic_name(*m).as_bytes() == word)
 }
 
 /// The name of an instruction, as the guide's table spells it.

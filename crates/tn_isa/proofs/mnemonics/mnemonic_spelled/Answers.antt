@@ -1,6 +1,6 @@
 use Rattle.tn_isa.specs.Mnemonics.{mnemonic_named}
 use Rattle.tn_isa.proofs.Naming.{found-named}
-use Rattle.tn_isa.proofs.mnemonics.mnemonic_of.Goals as goal
+use Rattle.tn_isa.proofs.mnemonics.mnemonic_spelled.Goals as goal
 
 pub returns-clause-found : goal.returns-clause-found
 unfolding mnemonic_named

@@ -1,0 +1,2 @@
+pub mod FileListLaws
+pub mod FilePlaces

@@ -1,0 +1,40 @@
+ghost use Rattle.std.specs.Prelude.{◌≤◌};
+ghost use Rattle.tn_io.specs.Faults.{Rose};
+
+use thiserror::Error;
+
+/// Why a store did not read a file.
+#[derive(Clone, Copy, Debug, PartialEq, Eq, Error)]
+pub enum GetFault {
+    /// The file is not there, or the device failed.
+    #[error("the file cannot be read")]
+    Failed,
+    /// The file has more bytes than the limit of the call, which is one less than this number.
+    #[error("the file has {0} bytes or more")]
+    TooLong(u64),
+    #[error("no memory")]
+    NoMemory,
+}
+
+/// Why a store did not create, write or close a file.
+#[derive(Clone, Copy, Debug, PartialEq, Eq, Error)]
+pub enum PutFault {
+    /// No file is open, or the device failed.
+    #[error("the file cannot be written")]
+    Failed,
+    #[error("no memory")]
+    NoMemory,
+}
+
+/// An output did not take all of a piece.
+#[derive(Clone, Copy, Debug, PartialEq, Eq, Error)]
+#[error("the output cannot be written")]
+pub struct OutFault;
+
+/// Counts one fault more, up to the greatest value of 64 bits.
+pub fn count_fault(faults: &mut u64)
+    ensures rose { Rose faults.old faults.new }
+    ensures no_less { faults.old ≤ faults.new }
+{
+    *faults = faults.saturating_add(1);
+}
