@@ -41,6 +41,7 @@ register_after-coding_up_to (suc more) f n h below =
     ∙ (fold-append operand_after 0 (coding_up_to more Pfix (n / 16)) (instruction f n ∷ [])
     ∙ operand_after-instruction (register_after 0 (coding_up_to more Pfix (n / 16))) f n n (omega arith)))
 
+-- the prefix bytes of an operand are prefix bytes
 pub IsPrefix-coding_prefixes : (e : ℤ) → All IsPrefix (coding_prefixes e)
 IsPrefix-coding_prefixes (pos n) = by_lt n 16
     (λ small. All-same IsPrefix (coding_prefixes (pos n)) [] (coding_prefixes-small n small) (All-nil IsPrefix))
@@ -58,6 +59,7 @@ register_after-coding_prefixes (negsuc n) h =
     let fits : n < 2 ^ 31 = h.sfits in
     ap (register_after 0) (coding_prefixes-negative n) ∙ (register_after-coding_up_to 7 Nfix (n / 16) (omega arith) (omega arith) ∙ omega arith)
 
+-- its low four bits are those of the word
 low_bits-word_of : (e : ℤ) → FitsSigned w32 e → low_bits e ≡ word_of e % 16
 low_bits-word_of (pos n) h = refl
 low_bits-word_of (negsuc n) h =
@@ -83,10 +85,11 @@ LoadsAll-coding f e h coded = record {
   sees = loaded-coding_prefixes f e h;
 }
 
+-- the numbers of a coding are bytes
 bytes : (more : ℕ) (f : Fun) (n : ℕ) → All (λ byte. byte < 256) (coding_up_to more f n)
 bytes more f n = All-coding_up_to (λ byte. byte < 256) (λ m. instruction-below Pfix m) more f n (λ m. instruction-below f m)
 
--- a coding's numbers are bytes
+-- and so of an operand's coding
 pub IsByte-coding : (f : Fun) (e : ℤ) → All (λ byte. byte < 256) (coding f e)
 unfolding coding
 IsByte-coding f (pos n) = bytes 7 f n

@@ -39,16 +39,18 @@ coding_up_to-more (suc more) f n h =
     (λ large. let less : n / 16 < 16 ^ suc more = omega (arith, pow-suc 16 (suc more)) in
     coding_up_to-large (suc more) f n large ∙ (ap (λ bytes. bytes ++ instruction f n ∷ []) (coding_up_to-more more Pfix (n / 16) less) ∙ sym (coding_up_to-large more f n large)))
 
--- the rule of coding for an operand that is not negative
+-- the rule of coding for an operand of four bits
 pub coding-small : (f : Fun) (n : ℕ) → n < 16 → coding f (pos n) ≡ instruction f n ∷ []
 unfolding coding
 coding-small f n h = coding_up_to-small 7 f n h
 
+-- the rule for an unsigned number of more bits
 pub unsigned_coding-large : (f : Fun) (n : ℕ) → 16 ≤ n → n < 2 ^ 32 → unsigned_coding f n ≡ unsigned_coding Pfix (n / 16) ++ instruction f n ∷ []
 unsigned_coding-large f n h below =
     let less : n / 16 < 16 ^ 7 = omega arith in
     coding_up_to-large 6 f n h ∙ ap (λ bytes. bytes ++ instruction f n ∷ []) (sym (coding_up_to-more 6 Pfix (n / 16) less))
 
+-- and of an operand
 pub coding-large : (f : Fun) (n : ℕ) → 16 ≤ n → n < 2 ^ 32 → coding f (pos n) ≡ coding Pfix (pos (n / 16)) ++ instruction f n ∷ []
 unfolding coding
 coding-large f n h below = unsigned_coding-large f n h below
@@ -63,9 +65,11 @@ pub coding-natural : (f : Fun) (n : ℕ) → coding f (pos n) ≡ unsigned_codin
 unfolding coding
 coding-natural f n = refl
 
+-- an unsigned number of four bits takes one byte
 pub unsigned_coding-small : (f : Fun) (n : ℕ) → n < 16 → unsigned_coding f n ≡ instruction f n ∷ []
 unsigned_coding-small f n h = coding_up_to-small 7 f n h
 
+-- a larger one takes one more than what its prefix takes
 pub length-unsigned_coding-large : (f : Fun) (n : ℕ) → 16 ≤ n → n < 2 ^ 32 → length (unsigned_coding f n) ≡ length (unsigned_coding Pfix (n / 16)) + 1
 length-unsigned_coding-large f n h below = ap length (unsigned_coding-large f n h below) ∙ length-append (unsigned_coding Pfix (n / 16)) (instruction f n ∷ [])
 
@@ -91,10 +95,12 @@ pub coding_prefixes-small : (n : ℕ) → n < 16 → coding_prefixes (pos n) ≡
 unfolding coding_prefixes
 coding_prefixes-small n h = cond-true (nat_lt n 16) [] (unsigned_coding Pfix (n / 16)) (lt-ltb n 16 h)
 
+-- one of more bits has the coding of pfix with the rest
 pub coding_prefixes-large : (n : ℕ) → 16 ≤ n → coding_prefixes (pos n) ≡ unsigned_coding Pfix (n / 16)
 unfolding coding_prefixes
 coding_prefixes-large n h = cond-false (nat_lt n 16) [] (unsigned_coding Pfix (n / 16)) (le-ltb n 16 h)
 
+-- a negative one has the coding of nfix with the rest of its complement
 pub coding_prefixes-negative : (n : ℕ) → coding_prefixes (negsuc n) ≡ unsigned_coding Nfix (n / 16)
 unfolding coding_prefixes
 coding_prefixes-negative n = refl

@@ -92,3 +92,6 @@ pub IsCoded-mnemonic : (f : Fun) → Contains mnemonics (Direct f) → IsCoded f
 unfolding is_coded_mnemonic
 IsCoded-mnemonic f h =
     not-true (is_prefix f) (All-contains (λ m. is_coded_mnemonic m ≡ true) mnemonics (Direct f) (AllPass-from_list_all is_coded_mnemonic mnemonics refl) h)
+
+-- what shows that a function is coded
+pub ruleset coded_functions = (IsCoded-mnemonic, IsCoded-other)

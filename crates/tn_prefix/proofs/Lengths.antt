@@ -13,7 +13,7 @@ use Rattle.tn_prefix.proofs.Cases.{by_lt}
 use Rattle.tn_prefix.proofs.Codings.{coding_up_to-zero, coding_up_to-small, coding_up_to-large, coding-natural, coding-negative}
 
 -- the least number of bytes from 2 to 8 that a number needs
-abbrev least_bytes : ℕ → ℕ
+abbrev pub least_bytes : ℕ → ℕ
 least_bytes n = unwrap_or (find (λ k. nat_lt n (16 ^ k)) (2 ∷ 3 ∷ 4 ∷ 5 ∷ 6 ∷ 7 ∷ [])) 8
 
 -- four bits take one byte
@@ -21,14 +21,17 @@ pub coding_length-small : (n : ℕ) → n < 16 → coding_length (pos n) ≡ 1
 unfolding coding_length
 coding_length-small n h = cond-true (nat_lt n 16) 1 (least_bytes n) (lt-ltb n 16 h)
 
+-- more bits take what the number needs
 pub coding_length-large : (n : ℕ) → 16 ≤ n → coding_length (pos n) ≡ least_bytes n
 unfolding coding_length
 coding_length-large n h = cond-false (nat_lt n 16) 1 (least_bytes n) (le-ltb n 16 h)
 
+-- and a negative operand what its complement needs
 pub coding_length-negative : (n : ℕ) → coding_length (negsuc n) ≡ least_bytes n
 unfolding coding_length
 coding_length-negative n = refl
 
+-- which are 2 to 8
 least_bytes-range : (n : ℕ) → (2 ≤ least_bytes n) × (least_bytes n ≤ 8)
 least_bytes-range n = grind (arith, nat_tests)
 
@@ -36,6 +39,7 @@ least_bytes-range n = grind (arith, nat_tests)
 least_bytes-enough : (n : ℕ) → n < 2 ^ 32 → n < 16 ^ least_bytes n
 least_bytes-enough n h = grind (arith, nat_tests)
 
+-- less than 16 ^ k needs at most k bytes
 below_2 : (n : ℕ) → n < 16 ^ 2 → least_bytes n ≤ 2
 below_2 n h = grind (arith, nat_tests)
 
@@ -80,6 +84,17 @@ coding_length-least (pos n) k two h = by_lt n 16
     (λ large. rw (coding_length-large n large) (least_bytes-least n k two (ltb-true n (16 ^ k) h)))
 coding_length-least (negsuc n) k two h = rw (coding_length-negative n) (least_bytes-least n k two (ltb-true n (16 ^ k) h))
 
+-- and that number of bytes is enough
+pub coding_length-enough : (e : ℤ) → FitsSigned w32 e → 1 < coding_length e → lies_within (16 ^ coding_length e) e ≡ true
+coding_length-enough (pos n) h more = by_lt n 16
+    (λ small. absurd (omega (arith, coding_length-small n small)))
+    (λ large. let fits : n < 2 ^ 31 = h.sfits in
+    rw (coding_length-large n large) (lt-ltb n (16 ^ least_bytes n) (least_bytes-enough n (omega arith))))
+coding_length-enough (negsuc n) h more =
+    let fits : n < 2 ^ 31 = h.sfits in
+    rw (coding_length-negative n) (lt-ltb n (16 ^ least_bytes n) (least_bytes-enough n (omega arith)))
+
+-- no number needs more than eight
 least_bytes-high : (n : ℕ) → 2 ^ 32 ≤ n → least_bytes n ≡ 8
 least_bytes-high n h = grind (arith, nat_tests)
 
@@ -89,15 +104,17 @@ least_bytes-mono m n h = by_lt n (2 ^ 32)
     (λ word. least_bytes-least m (least_bytes n) (least_bytes-range n).0 (omega (arith, least_bytes-enough n word)))
     (λ over. omega (arith, (least_bytes-range m).1, least_bytes-high n over))
 
+-- the same of an operand that is not negative
 pub coding_length-mono : (m n : ℕ) → m ≤ n → coding_length (pos m) ≤ coding_length (pos n)
 coding_length-mono m n h = by_lt m 16
     (λ small. rw (coding_length-small m small) (coding_length-range (pos n)).0)
     (λ large. rw (coding_length-large m large, coding_length-large n (omega arith)) (least_bytes-mono m n h))
 
+-- and of a negative one, by its complement
 pub coding_length-mono_negative : (m n : ℕ) → m ≤ n → coding_length (negsuc m) ≤ coding_length (negsuc n)
 coding_length-mono_negative m n h = rw (coding_length-negative m, coding_length-negative n) (least_bytes-mono m n h)
 
--- a coding has as many bytes as its operand needs
+-- a coding has no more bytes than its operand needs
 length-coding_up_to_le : (more : ℕ) (f : Fun) (n k : ℕ) → n < 16 ^ suc k → length (coding_up_to more f n) ≤ suc k
 length-coding_up_to_le zero f n k h = rw (coding_up_to-zero f n) (omega arith)
 length-coding_up_to_le (suc more) f n zero h =
@@ -108,6 +125,7 @@ length-coding_up_to_le (suc more) f n (suc k) h = by_lt n 16
     (λ large. rw (coding_up_to-large more f n large, length-append (coding_up_to more Pfix (n / 16)) (instruction f n ∷ []))
     (omega (arith, length-coding_up_to_le more Pfix (n / 16) k (omega (arith, pow-suc 16 (suc k))))))
 
+-- nor fewer
 below-length-coding_up_to : (more : ℕ) (f : Fun) (n : ℕ) → n < 16 ^ suc more → n < 16 ^ length (coding_up_to more f n)
 below-length-coding_up_to zero f n h = rw (coding_up_to-zero f n) h
 below-length-coding_up_to (suc more) f n h = by_lt n 16
@@ -115,12 +133,14 @@ below-length-coding_up_to (suc more) f n h = by_lt n 16
     (λ large. rw (coding_up_to-large more f n large, length-append (coding_up_to more Pfix (n / 16)) (instruction f n ∷ []), add-one, pow-suc)
     (let rest = below-length-coding_up_to more Pfix (n / 16) (omega (arith, pow-suc 16 (suc more))) in omega arith))
 
+-- it has at least one
 some-length-coding_up_to : (more : ℕ) (f : Fun) (n : ℕ) → 0 < length (coding_up_to more f n)
 some-length-coding_up_to zero f n = rw (coding_up_to-zero f n) (omega arith)
 some-length-coding_up_to (suc more) f n = by_lt n 16
     (λ small. rw (coding_up_to-small (suc more) f n small) (omega arith))
     (λ large. rw (coding_up_to-large more f n large, length-append (coding_up_to more Pfix (n / 16)) (instruction f n ∷ [])) (omega arith))
 
+-- the bytes of a prefix with n / 16 and one more are as many as n needs
 length_behind_prefix : (more : ℕ) (f : Fun) (n : ℕ) → n < 2 ^ 32 → n / 16 < 16 ^ suc more → length (coding_up_to more f (n / 16)) + 1 ≡ least_bytes n
 length_behind_prefix more f n word h =
     let rest = coding_up_to more f (n / 16) in
@@ -135,6 +155,7 @@ length_behind_prefix more f n word h =
     up_to (suc zero) two l = absurd (omega arith)
     up_to (suc (suc k)) two l = omega (arith, length-coding_up_to_le more f (n / 16) k (omega (arith, pow-suc 16 (suc k))))
 
+-- how many bytes a coding has
 pub length-coding : (f : Fun) (e : ℤ) → FitsSigned w32 e → length (coding f e) ≡ coding_length e
 length-coding f (pos n) h =
     let fits : n < 2 ^ 31 = h.sfits in
@@ -150,6 +171,12 @@ length-coding f (negsuc n) h =
 -- an operand that needs a prefix takes as many bytes as its complement
 pub coding_length-complement : (n : ℕ) → 16 ≤ n → coding_length (pos n) ≡ coding_length (negsuc n)
 coding_length-complement n h = coding_length-large n h ∙ sym (coding_length-negative n)
+
+-- and a negative one at least as many
+pub coding_length-complement_le : (n : ℕ) → coding_length (pos n) ≤ coding_length (negsuc n)
+coding_length-complement_le n = by_lt n 16
+    (λ small. rw (coding_length-small n small) (coding_length-range (negsuc n)).0)
+    (λ large. omega (arith, coding_length-complement n large))
 
 -- what the search takes from here for an operand by its sign
 pub ruleset by_sign = (coding_length-small, coding_length-complement)

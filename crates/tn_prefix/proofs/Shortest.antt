@@ -106,5 +106,6 @@ shortest-loads (negsuc m) bytes f n h l =
     (λ two. two))
     (lt-ltb m (16 ^ n) (by_lt m (16 ^ n) (λ near. near) (λ far. absurd (by_lt (word_of (negsuc m)) (16 ^ n) (λ close. omega arith) (λ away. omega (arith, near-loads bytes f (word_of (negsuc m)) n l away))))))
 
+-- the same where the bytes are all read
 pub shortest-LoadsAll : (e : ℤ) (bytes : List ℕ) (f : Fun) → FitsSigned w32 e → LoadsAll bytes f (word_of e) → coding_length e ≤ length bytes
 shortest-LoadsAll e bytes f h l = shortest-loads e bytes f (length bytes) h (ap loads (sym (append-nil bytes)) ∙ loads-LoadsAll l [])

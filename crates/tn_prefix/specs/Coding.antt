@@ -19,8 +19,8 @@ IsCoded f = is_prefix f ≡ false
 abbrev pub instruction : Fun → ℕ → ℕ
 instruction f operand = code_of f * 16 + operand % 16
 
--- the coding of f with n where at most so many prefix bytes are needed: pfix with n / 16 comes
--- first where n has more than four bits
+-- the coding of f with an unsigned n, of at most so many prefix bytes: where n has more than four
+-- bits, the coding of pfix with n / 16 comes before the byte of f
 unfoldable pub coding_up_to : ℕ → Fun → ℕ → List ℕ
 coding_up_to zero f n = instruction f n ∷ []
 coding_up_to (suc more) f n = if nat_lt n 16 then instruction f n ∷ [] else coding_up_to more Pfix (n / 16) ++ instruction f n ∷ []
@@ -30,7 +30,7 @@ abbrev pub unsigned_coding : Fun → ℕ → List ℕ
 unsigned_coding f n = coding_up_to 7 f n
 
 -- the coding of f with an operand from -2 ^ 31 to 2 ^ 31 - 1. For a negative one, whose
--- complement is n, nfix with n / 16 comes first, and the last byte has its own low four bits
+-- complement is n, the coding of nfix with n / 16 comes before the byte with its low four bits
 unfoldable pub coding : Fun → ℤ → List ℕ
 coding f (pos n) = unsigned_coding f n
 coding f (negsuc n) = unsigned_coding Nfix (n / 16) ++ instruction f (15 - n % 16) ∷ []
@@ -40,7 +40,7 @@ abbrev pub is_nibble : ℤ → Bool
 is_nibble (pos n) = nat_lt n 16
 is_nibble (negsuc n) = false
 
--- whether -bound ≤ e < bound; negsuc n is -(n + 1)
+-- whether -bound ≤ e < bound, where negsuc n is -(n + 1)
 abbrev pub lies_within : ℕ → ℤ → Bool
 lies_within bound (pos n) = nat_lt n bound
 lies_within bound (negsuc n) = nat_lt n bound
