@@ -11,6 +11,17 @@ pub use mnemonics::{Mnemonic, mnemonic_name, mnemonic_of, mnemonic_spelled};
 #[cfg(test)]
 mod tests {
     use super::*;
+    use std::process::Abort;
+
+    fn check(rt: &impl Abort, code: u8, name: &str, fun: Fun, named: bool) {
+        assert_eq!(rt; fun_code(fun), code, "{name}");
+        assert!(rt; code < 16);
+        assert!(rt; fun_of(code * 16 + 5) == fun, "{name}");
+        assert_eq!(rt; mnemonic_name(Mnemonic::Direct(fun)), name);
+        let mnemonic = mnemonic_of(name);
+        assert!(rt; mnemonic.is_some() == named, "{name}");
+        assert!(rt; !named || mnemonic == Some(Mnemonic::Direct(fun)), "{name}");
+    }
 
     /// The guide's table: a function's code, its name, and whether a source may name it.
     #[test]
@@ -34,13 +45,7 @@ mod tests {
             (0xF, "opr", Fun::Opr, false),
         ];
         for (code, name, fun, named) in table {
-            assert_eq!(rt; fun_code(fun), code, "{name}");
-            assert!(rt; code < 16);
-            assert!(rt; fun_of(code * 16 + 5) == fun, "{name}");
-            assert_eq!(rt; mnemonic_name(Mnemonic::Direct(fun)), name);
-            let mnemonic = mnemonic_of(name);
-            assert!(rt; mnemonic.is_some() == named, "{name}");
-            assert!(rt; !named || mnemonic == Some(Mnemonic::Direct(fun)), "{name}");
+            check(&rt, code, name, fun, named);
         }
         assert!(rt; mnemonic_spelled(b"ldc") == Some(Mnemonic::Direct(Fun::Ldc)));
         assert!(rt; mnemonic_of("LDC").is_none());

@@ -10,3 +10,6 @@ mod words;
 
 pub use commands::run;
 pub use statuses::{Status, code};
+
+#[cfg(test)]
+mod tests;
