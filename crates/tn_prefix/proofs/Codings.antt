@@ -1,0 +1,69 @@
+-- The coding of an operand, byte by byte.
+use Rattle.std.proofs.Common.{◌≡◌, ℕ, zero, suc, ◌+◌, ◌*◌, ◌/◌, ◌%◌, ◌^◌, ◌<◌, ◌≤◌, ◌-◌, pos, negsuc, true, false, cond, List, [], ◌∷◌, ◌++◌, length, nat_lt, refl, sym, ap, ◌∙◌, length-append, append_assoc, arith}
+use Rattle.std.proofs.Math.Nat.{pow-suc}
+use Rattle.std.proofs.lemmas.Nat.{div_below}
+use Rattle.tn_prefix.proofs.Instructions.{by_lt}
+use Rattle.std.proofs.lemmas.Bool.Decides.{nat_tests}
+use Rattle.tn_isa.specs.declared.functions.Fun.{Fun}
+use Rattle.tn_isa.specs.declared.functions.Fun.TheVariants.{Pfix, Nfix}
+use Rattle.tn_prefix.specs.Coding.{instruction, coding_up_to, unsigned_coding, coding}
+
+-- with no prefix allowed there is none
+pub coding_up_to-zero : (f : Fun) (n : ℕ) → coding_up_to 0 f n ≡ instruction f n ∷ []
+unfolding coding_up_to
+coding_up_to-zero f n = refl
+
+-- four bits need no prefix
+pub coding_up_to-small : (more : ℕ) (f : Fun) (n : ℕ) → n < 16 → coding_up_to more f n ≡ instruction f n ∷ []
+unfolding coding_up_to
+coding_up_to-small zero f n h = refl
+coding_up_to-small (suc more) f n h = grind (arith, nat_tests)
+
+-- more bits need one
+pub coding_up_to-large : (more : ℕ) (f : Fun) (n : ℕ) → 16 ≤ n → coding_up_to (suc more) f n ≡ coding_up_to more Pfix (n / 16) ++ instruction f n ∷ []
+unfolding coding_up_to
+coding_up_to-large more f n h = grind (arith, nat_tests)
+
+-- a place for one more prefix changes nothing where there are enough
+pub coding_up_to-more : (more : ℕ) (f : Fun) (n : ℕ) → n < 16 ^ suc more → coding_up_to (suc more) f n ≡ coding_up_to more f n
+coding_up_to-more zero f n h =
+    let small : n < 16 = omega (arith, pow-suc 16 0) in
+    coding_up_to-small 1 f n small ∙ sym (coding_up_to-small 0 f n small)
+coding_up_to-more (suc more) f n h =
+    by_lt n 16
+    (λ small. coding_up_to-small (suc (suc more)) f n small ∙ sym (coding_up_to-small (suc more) f n small))
+    (λ large. let less : n / 16 < 16 ^ suc more = omega (arith, pow-suc 16 (suc more)) in
+        coding_up_to-large (suc more) f n large ∙ (ap (λ bytes. bytes ++ instruction f n ∷ []) (coding_up_to-more more Pfix (n / 16) less) ∙ sym (coding_up_to-large more f n large)))
+
+-- the rule of coding for an operand that is not negative
+pub coding-small : (f : Fun) (n : ℕ) → n < 16 → coding f (pos n) ≡ instruction f n ∷ []
+unfolding coding
+coding-small f n h = coding_up_to-small 7 f n h
+
+pub unsigned_coding-large : (f : Fun) (n : ℕ) → 16 ≤ n → n < 2 ^ 32 → unsigned_coding f n ≡ unsigned_coding Pfix (n / 16) ++ instruction f n ∷ []
+unsigned_coding-large f n h below =
+    let less : n / 16 < 16 ^ 7 = omega arith in
+    coding_up_to-large 6 f n h ∙ ap (λ bytes. bytes ++ instruction f n ∷ []) (sym (coding_up_to-more 6 Pfix (n / 16) less))
+
+pub coding-large : (f : Fun) (n : ℕ) → 16 ≤ n → n < 2 ^ 32 → coding f (pos n) ≡ coding Pfix (pos (n / 16)) ++ instruction f n ∷ []
+unfolding coding
+coding-large f n h below = unsigned_coding-large f n h below
+
+-- the rule for a negative operand, whose complement is n
+pub coding-negative : (f : Fun) (n : ℕ) → coding f (negsuc n) ≡ coding Nfix (pos (n / 16)) ++ instruction f (15 - n % 16) ∷ []
+unfolding coding
+coding-negative f n = refl
+
+-- an operand that is not negative is coded as the unsigned number
+pub coding-natural : (f : Fun) (n : ℕ) → coding f (pos n) ≡ unsigned_coding f n
+unfolding coding
+coding-natural f n = refl
+
+pub unsigned_coding-small : (f : Fun) (n : ℕ) → n < 16 → unsigned_coding f n ≡ instruction f n ∷ []
+unsigned_coding-small f n h = coding_up_to-small 7 f n h
+
+pub length-unsigned_coding-large : (f : Fun) (n : ℕ) → 16 ≤ n → n < 2 ^ 32 → length (unsigned_coding f n) ≡ length (unsigned_coding Pfix (n / 16)) + 1
+length-unsigned_coding-large f n h below = ap length (unsigned_coding-large f n h below) ∙ length-append (unsigned_coding Pfix (n / 16)) (instruction f n ∷ [])
+
+-- a step of what appends a coding
+pub ruleset push_steps = (unsigned_coding-small, unsigned_coding-large, length-unsigned_coding-large, append_assoc, length-append)

@@ -1,0 +1,58 @@
+-- The operand register, and what bytes load.
+use Rattle.std.specs.Prelude.{◌≡◌, ℕ, ◌+◌, ◌-◌, ◌*◌, ◌/◌, ◌%◌, ◌^◌, ℤ, true, List, [], ◌∷◌, length, Option, Some, None, if◌then◌else◌, fold}
+use Rattle.std.specs.Option.{option_map}
+use Rattle.std.specs.Int.{cast_unsigned, w32}
+use Rattle.tn_isa.specs.Functions.{function_at}
+use Rattle.tn_isa.specs.declared.functions.Fun.{Fun}
+use Rattle.tn_isa.specs.declared.functions.Fun.TheVariants.{Pfix, Nfix}
+use Rattle.tn_prefix.specs.Coding.{is_prefix}
+
+-- the function that a byte names
+abbrev pub function_of : ℕ → Fun
+function_of byte = function_at (byte / 16)
+
+-- a byte of pfix or nfix
+abbrev pub IsPrefix : ℕ → Type 0
+IsPrefix byte = is_prefix (function_of byte) ≡ true
+
+-- the register with its low four bits replaced by those of a byte: the operand that the byte's
+-- function sees
+abbrev pub loaded : ℕ → ℕ → ℕ
+loaded register byte = (register / 16) * 16 + byte % 16
+
+-- what a function that sees this operand leaves in the register: pfix shifts it left by four
+-- bits, nfix complements it first, and no other function changes it before it executes
+abbrev pub shifted : Fun → ℕ → ℕ
+shifted Pfix operand = (operand * 16) % 2 ^ 32
+shifted Nfix operand = ((2 ^ 32 - 1 - operand) * 16) % 2 ^ 32
+shifted _ operand = operand
+
+-- the register after one byte
+abbrev pub operand_after : ℕ → ℕ → ℕ
+operand_after register byte = shifted (function_of byte) (loaded register byte)
+
+-- the register after bytes, one after the other
+abbrev pub register_after : ℕ → List ℕ → ℕ
+register_after register bytes = fold operand_after register bytes
+
+-- what was found behind one byte
+abbrev pub behind_one : Fun × ℕ × ℕ → Fun × ℕ × ℕ
+behind_one found = (found.0, found.1, found.2 + 1)
+
+-- the first byte that is no prefix, from this register on: its function, the operand that it
+-- sees, and how many bytes are read with it; None where no such byte comes
+unfoldable pub loads_from : ℕ → List ℕ → Option (Fun × ℕ × ℕ)
+loads_from register [] = None
+loads_from register (byte ∷ rest) = if is_prefix (function_of byte) then option_map behind_one (loads_from (operand_after register byte) rest) else Some (function_of byte, loaded register byte, 1)
+
+-- the same where the register is clear
+abbrev pub loads : List ℕ → Option (Fun × ℕ × ℕ)
+loads bytes = loads_from 0 bytes
+
+-- these bytes, all of them, load the operand into f
+pub record LoadsAll (bytes : List ℕ) (f : Fun) (operand : ℕ) : Type 0 where
+  pub whole : loads bytes ≡ Some (f, operand, length bytes)
+
+-- a signed operand modulo 2 ^ 32, as a function sees it
+abbrev pub word_of : ℤ → ℕ
+word_of e = cast_unsigned w32 e
