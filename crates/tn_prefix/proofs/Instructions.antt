@@ -1,15 +1,16 @@
 -- What an instruction's byte holds.
-use Rattle.std.proofs.Common.{◌≡◌, ◌≢◌, ℕ, ◌+◌, ◌*◌, ◌/◌, ◌%◌, ◌<◌, ◌≤◌, ⊎_elim, true, false, refl, ap, ◌∙◌, arith}
-use Rattle.std.proofs.lemmas.Bool.{cases_lt}
+use Rattle.std.proofs.Common.{◌≡◌, ◌≢◌, ℕ, ◌/◌, ◌%◌, ◌<◌, Bool, true, not, Contains, refl, ap, ◌∙◌, arith}
 use Rattle.tn_isa.specs.declared.functions.Fun.{Fun}
 use Rattle.tn_isa.specs.declared.functions.Fun.TheVariants.{J, Ldlp, Pfix, Ldnl, Ldc, Ldnlp, Nfix, Ldl, Adc, Call, Cj, Ajw, Eqc, Stl, Stnl, Opr}
 use Rattle.tn_isa.specs.Functions.{code_of, function_at}
+use Rattle.tn_isa.specs.declared.mnemonics.Mnemonic.{Mnemonic}
+use Rattle.tn_isa.specs.declared.mnemonics.Mnemonic.TheVariants.{Direct}
+use Rattle.std.proofs.lemmas.Bool.{not-true}
+use Rattle.std.proofs.lemmas.List.Sums.{AllPass-from_list_all}
+use Rattle.std.proofs.lemmas.List.Elements.{All-contains}
+use Rattle.tn_isa.specs.Mnemonics.{mnemonics}
 use Rattle.tn_prefix.specs.Coding.{is_prefix, IsCoded, instruction}
 use Rattle.tn_prefix.specs.Operand.{function_of}
-
--- two cases on numbers
-pub by_lt : {P : Type 0} (a b : ℕ) → (a < b → P) → (b ≤ a → P) → P
-by_lt a b less more = ⊎_elim less more (cases_lt a b)
 
 -- a code has four bits
 pub code_of-below : (f : Fun) → code_of f < 16
@@ -81,3 +82,13 @@ IsCoded-other Eqc p n = refl
 IsCoded-other Stl p n = refl
 IsCoded-other Stnl p n = refl
 IsCoded-other Opr p n = refl
+
+-- whether a mnemonic is of a function that is coded
+is_coded_mnemonic : Mnemonic → Bool
+is_coded_mnemonic (Direct f) = not (is_prefix f)
+
+-- each function that a source may name is coded
+pub IsCoded-mnemonic : (f : Fun) → Contains mnemonics (Direct f) → IsCoded f
+unfolding is_coded_mnemonic
+IsCoded-mnemonic f h =
+    not-true (is_prefix f) (All-contains (λ m. is_coded_mnemonic m ≡ true) mnemonics (Direct f) (AllPass-from_list_all is_coded_mnemonic mnemonics refl) h)

@@ -9,7 +9,7 @@ use Rattle.std.proofs.lemmas.Bool.Decides.{nat_tests}
 use Rattle.tn_isa.specs.declared.functions.Fun.{Fun}
 use Rattle.tn_isa.specs.declared.functions.Fun.TheVariants.{Pfix, Nfix}
 use Rattle.tn_prefix.specs.Coding.{instruction, coding_up_to, unsigned_coding, coding, lies_within, coding_length}
-use Rattle.tn_prefix.proofs.Instructions.{by_lt}
+use Rattle.tn_prefix.proofs.Cases.{by_lt}
 use Rattle.tn_prefix.proofs.Codings.{coding_up_to-zero, coding_up_to-small, coding_up_to-large, coding-natural, coding-negative}
 
 -- the least number of bytes from 2 to 8 that a number needs
@@ -106,14 +106,14 @@ length-coding_up_to_le (suc more) f n zero h =
 length-coding_up_to_le (suc more) f n (suc k) h = by_lt n 16
     (λ small. rw (coding_up_to-small (suc more) f n small) (omega arith))
     (λ large. rw (coding_up_to-large more f n large, length-append (coding_up_to more Pfix (n / 16)) (instruction f n ∷ []))
-        (omega (arith, length-coding_up_to_le more Pfix (n / 16) k (omega (arith, pow-suc 16 (suc k))))))
+    (omega (arith, length-coding_up_to_le more Pfix (n / 16) k (omega (arith, pow-suc 16 (suc k))))))
 
 below-length-coding_up_to : (more : ℕ) (f : Fun) (n : ℕ) → n < 16 ^ suc more → n < 16 ^ length (coding_up_to more f n)
 below-length-coding_up_to zero f n h = rw (coding_up_to-zero f n) h
 below-length-coding_up_to (suc more) f n h = by_lt n 16
     (λ small. rw (coding_up_to-small (suc more) f n small) (omega arith))
     (λ large. rw (coding_up_to-large more f n large, length-append (coding_up_to more Pfix (n / 16)) (instruction f n ∷ []), add-one, pow-suc)
-        (let rest = below-length-coding_up_to more Pfix (n / 16) (omega (arith, pow-suc 16 (suc more))) in omega arith))
+    (let rest = below-length-coding_up_to more Pfix (n / 16) (omega (arith, pow-suc 16 (suc more))) in omega arith))
 
 some-length-coding_up_to : (more : ℕ) (f : Fun) (n : ℕ) → 0 < length (coding_up_to more f n)
 some-length-coding_up_to zero f n = rw (coding_up_to-zero f n) (omega arith)
@@ -141,11 +141,11 @@ length-coding f (pos n) h =
     by_lt n 16
     (λ small. rw (coding-natural f n, coding_up_to-small 7 f n small, coding_length-small n small))
     (λ large. rw (coding-natural f n, coding_up_to-large 6 f n large, length-append (coding_up_to 6 Pfix (n / 16)) (instruction f n ∷ []), coding_length-large n large)
-        (length_behind_prefix 6 Pfix n (omega arith) (omega arith)))
+    (length_behind_prefix 6 Pfix n (omega arith) (omega arith)))
 length-coding f (negsuc n) h =
     let fits : n < 2 ^ 31 = h.sfits in
     rw (coding-negative f n, coding-natural Nfix (n / 16), length-append (unsigned_coding Nfix (n / 16)) (instruction f (15 - n % 16) ∷ []), coding_length-negative n)
-        (length_behind_prefix 7 Nfix n (omega arith) (omega arith))
+    (length_behind_prefix 7 Nfix n (omega arith) (omega arith))
 
 -- an operand that needs a prefix takes as many bytes as its complement
 pub coding_length-complement : (n : ℕ) → 16 ≤ n → coding_length (pos n) ≡ coding_length (negsuc n)

@@ -1,16 +1,17 @@
 -- No bytes that load an operand are fewer than its coding.
-use Rattle.std.proofs.Common.{ℤ, pos, negsuc, add-one, ◌≡◌, ℕ, zero, suc, ◌+◌, ◌*◌, ◌/◌, ◌%◌, ◌^◌, ◌<◌, ◌≤◌, ◌-◌, ◌⊎◌, inl, inr, ⊎_elim, Bool, true, false, List, [], ◌∷◌, length, Option, Some, None, refl, sym, ap, ◌∙◌, subst, arith}
+use Rattle.std.proofs.Common.{ℤ, pos, negsuc, add-one, ◌≡◌, ℕ, ◌+◌, ◌*◌, ◌/◌, ◌%◌, ◌^◌, ◌<◌, ◌≤◌, ⊎_elim, true, List, [], ◌∷◌, length, Option, Some, None, refl, sym, ap, ◌∙◌, arith}
 use Rattle.std.specs.Option.{option_map}
 use Rattle.std.specs.Int.{w32}
 use Rattle.std.specs.Int.RustNames.{FitsSigned}
 use Rattle.std.proofs.Math.Nat.{pow-suc}
+use Rattle.std.proofs.lemmas.List.{append-nil}
 use Rattle.std.proofs.lemmas.Bool.{cases_Bool, lt-ltb}
 use Rattle.tn_isa.specs.declared.functions.Fun.{Fun}
 use Rattle.tn_isa.specs.declared.functions.Fun.TheVariants.{Pfix, Nfix}
 use Rattle.tn_prefix.specs.Coding.{is_prefix, coding_length}
-use Rattle.tn_prefix.specs.Operand.{IsPrefix, function_of, loaded, shifted, operand_after, behind_one, loads_from, loads, word_of}
-use Rattle.tn_prefix.proofs.Instructions.{by_lt}
-use Rattle.tn_prefix.proofs.Loads.{loads_from-prefix, loads_from-last, same_found}
+use Rattle.tn_prefix.specs.Operand.{function_of, loaded, shifted, operand_after, behind_one, loads_from, loads, LoadsAll, word_of}
+use Rattle.tn_prefix.proofs.Cases.{by_lt, same_some, same_found}
+use Rattle.tn_prefix.proofs.Loads.{loads_from-prefix, loads_from-last, loads-LoadsAll}
 use Rattle.tn_prefix.proofs.Lengths.{coding_length-small, coding_length-least}
 
 -- what the register can hold after prefix bytes, of which there were k where p is 16 ^ k: a word
@@ -29,9 +30,6 @@ Reaches-shifted Nfix p register low h small some r = record {
   near = λ far. by_lt register (16 * p) (λ close. omega arith) (λ away. let n = r.near away in omega arith);
 }
 Reaches-shifted f p register low h small some r = absurd (cc)
-
-same_some : {A : Type 0} (x y : A) → Some x ≡ Some y → x ≡ y
-same_some x y h = cc
 
 -- what was found behind one byte was found with one byte less
 behind : (o : Option (Fun × ℕ × ℕ)) (f : Fun) (x n : ℕ) → option_map behind_one o ≡ Some (f, x, n) → (m : ℕ) × (o ≡ Some (f, x, m)) × (n ≡ m + 1)
@@ -57,14 +55,14 @@ near-loads_from p register [] f x n some r h far = absurd (cc)
 near-loads_from p register (byte ∷ rest) f x n some r h far =
     ⊎_elim
     (λ is. let b = behind (loads_from (operand_after register byte) rest) f x n (sym (loads_from-prefix register byte rest is) ∙ h) in
-        let reached : p * 16 ^ n ≡ 16 * p * 16 ^ b.0 = ap (λ t. p * t) (ap (λ t. 16 ^ t) (b.2 ∙ add-one b.0) ∙ pow-suc 16 b.0) ∙ omega arith in
-        let after = Reaches-shifted (function_of byte) p register (byte % 16) is (omega arith) some r in
-        let more = near-loads_from (16 * p) (operand_after register byte) rest f x b.0 (omega arith) after b.1 (omega arith) in
-        omega arith)
+    let reached : p * 16 ^ n ≡ 16 * p * 16 ^ b.0 = ap (λ t. p * t) (ap (λ t. 16 ^ t) (b.2 ∙ add-one b.0) ∙ pow-suc 16 b.0) ∙ omega arith in
+    let after = Reaches-shifted (function_of byte) p register (byte % 16) is (omega arith) some r in
+    let more = near-loads_from (16 * p) (operand_after register byte) rest f x b.0 (omega arith) after b.1 (omega arith) in
+    omega arith)
     (λ q. let same = same_some (function_of byte, loaded register byte, 1) (f, x, n) (sym (loads_from-last register byte rest q) ∙ h) in
-        let seen : loaded register byte ≡ x = ap (λ t. t.1) same in
-        let one : p * 16 ^ n ≡ 16 * p = ap (λ t. p * 16 ^ t) (sym (ap (λ t. t.2) same)) ∙ omega arith in
-        by_lt register (16 * p) (λ close. omega arith) (λ away. let near = r.near away in omega arith))
+    let seen : loaded register byte ≡ x = ap (λ t. t.1) same in
+    let one : p * 16 ^ n ≡ 16 * p = ap (λ t. p * 16 ^ t) (sym (ap (λ t. t.2) same)) ∙ omega arith in
+    by_lt register (16 * p) (λ close. omega arith) (λ away. let near = r.near away in omega arith))
     (cases_Bool (is_prefix (function_of byte)))
 
 -- bytes that load an operand reach no further than their number allows
@@ -81,10 +79,10 @@ nibble-loads [] f x h = absurd (cc)
 nibble-loads (byte ∷ rest) f x h =
     ⊎_elim
     (λ is. let b = behind (loads_from (operand_after 0 byte) rest) f x 1 (sym (loads_from-prefix 0 byte rest is) ∙ h) in
-        let some = some-loads_from (operand_after 0 byte) rest f x b.0 b.1 in
-        absurd (omega (arith, b.2)))
+    let some = some-loads_from (operand_after 0 byte) rest f x b.0 b.1 in
+    absurd (omega (arith, b.2)))
     (λ q. let same = same_some (function_of byte, loaded 0 byte, 1) (f, x, 1) (sym (loads_from-last 0 byte rest q) ∙ h) in
-        omega (arith, ap (λ t. t.1) same))
+    omega (arith, ap (λ t. t.1) same))
     (cases_Bool (is_prefix (function_of byte)))
 
 -- no bytes that load an operand are fewer than its coding
@@ -95,15 +93,18 @@ shortest-loads (pos m) bytes f n h l =
     by_lt m 16
     (λ small. omega (arith, coding_length-small m small))
     (λ large. coding_length-least (pos m) n
-        (by_lt n 2
-         (λ one. absurd (omega (arith, nibble-loads bytes f m (l ∙ ap (λ t. Some (f, m, t)) (omega arith)))))
-         (λ two. two))
-        (lt-ltb m (16 ^ n) (by_lt m (16 ^ n) (λ near. near) (λ far. absurd (omega (arith, near-loads bytes f m n l far))))))
+    (by_lt n 2
+    (λ one. absurd (omega (arith, nibble-loads bytes f m (l ∙ ap (λ t. Some (f, m, t)) (omega arith)))))
+    (λ two. two))
+    (lt-ltb m (16 ^ n) (by_lt m (16 ^ n) (λ near. near) (λ far. absurd (omega (arith, near-loads bytes f m n l far))))))
 shortest-loads (negsuc m) bytes f n h l =
     let fits : m < 2 ^ 31 = h.sfits in
     let some = some-loads_from 0 bytes f (word_of (negsuc m)) n l in
     coding_length-least (negsuc m) n
-        (by_lt n 2
-         (λ one. absurd (omega (arith, nibble-loads bytes f (word_of (negsuc m)) (l ∙ ap (λ t. Some (f, word_of (negsuc m), t)) (omega arith)))))
-         (λ two. two))
-        (lt-ltb m (16 ^ n) (by_lt m (16 ^ n) (λ near. near) (λ far. absurd (by_lt (word_of (negsuc m)) (16 ^ n) (λ close. omega arith) (λ away. omega (arith, near-loads bytes f (word_of (negsuc m)) n l away))))))
+    (by_lt n 2
+    (λ one. absurd (omega (arith, nibble-loads bytes f (word_of (negsuc m)) (l ∙ ap (λ t. Some (f, word_of (negsuc m), t)) (omega arith)))))
+    (λ two. two))
+    (lt-ltb m (16 ^ n) (by_lt m (16 ^ n) (λ near. near) (λ far. absurd (by_lt (word_of (negsuc m)) (16 ^ n) (λ close. omega arith) (λ away. omega (arith, near-loads bytes f (word_of (negsuc m)) n l away))))))
+
+pub shortest-LoadsAll : (e : ℤ) (bytes : List ℕ) (f : Fun) → FitsSigned w32 e → LoadsAll bytes f (word_of e) → coding_length e ≤ length bytes
+shortest-LoadsAll e bytes f h l = shortest-loads e bytes f (length bytes) h (ap loads (sym (append-nil bytes)) ∙ loads-LoadsAll l [])

@@ -1,11 +1,11 @@
 -- The operand register, and what bytes load.
-use Rattle.std.specs.Prelude.{◌≡◌, ℕ, ◌+◌, ◌-◌, ◌*◌, ◌/◌, ◌%◌, ◌^◌, ℤ, true, List, [], ◌∷◌, length, Option, Some, None, if◌then◌else◌, fold}
+use Rattle.std.specs.Prelude.{◌≡◌, ℕ, ◌+◌, ◌-◌, ◌*◌, ◌/◌, ◌%◌, ◌^◌, ℤ, true, List, [], ◌∷◌, ◌++◌, All, Option, Some, None, if◌then◌else◌, fold}
 use Rattle.std.specs.Option.{option_map}
 use Rattle.std.specs.Int.{cast_unsigned, w32}
 use Rattle.tn_isa.specs.Functions.{function_at}
 use Rattle.tn_isa.specs.declared.functions.Fun.{Fun}
 use Rattle.tn_isa.specs.declared.functions.Fun.TheVariants.{Pfix, Nfix}
-use Rattle.tn_prefix.specs.Coding.{is_prefix}
+use Rattle.tn_prefix.specs.Coding.{is_prefix, IsCoded}
 
 -- the function that a byte names
 abbrev pub function_of : ℕ → Fun
@@ -49,9 +49,16 @@ loads_from register (byte ∷ rest) = if is_prefix (function_of byte) then optio
 abbrev pub loads : List ℕ → Option (Fun × ℕ × ℕ)
 loads bytes = loads_from 0 bytes
 
--- these bytes, all of them, load the operand into f
+-- these bytes, all of them, load the operand into f: they are prefix bytes, and a last byte of f,
+-- which is no prefix and sees the operand in the register that they leave
 pub record LoadsAll (bytes : List ℕ) (f : Fun) (operand : ℕ) : Type 0 where
-  pub whole : loads bytes ≡ Some (f, operand, length bytes)
+  pub prefixes : List ℕ
+  pub last : ℕ
+  pub parts : bytes ≡ prefixes ++ last ∷ []
+  pub before : All IsPrefix prefixes
+  pub names : function_of last ≡ f
+  pub executes : IsCoded f
+  pub sees : loaded (register_after 0 prefixes) last ≡ operand
 
 -- a signed operand modulo 2 ^ 32, as a function sees it
 abbrev pub word_of : ℤ → ℕ

@@ -5,10 +5,9 @@ ghost use Rattle.tn_prefix.specs.Coding.{IsCoded, instruction, unsigned_coding, 
 ghost use Rattle.tn_prefix.specs.Sign.{operand_value, magnitude};
 ghost use Rattle.tn_prefix.specs.Operand.{loads, LoadsAll, word_of};
 
+use crate::sign::SignedOperand;
 use arrayvec::ArrayVec;
 use tn_isa::{Fun, fun_code};
-
-use crate::sign::SignedOperand;
 
 /// The bytes of an instruction: the shortest that load the operand into the function, which is
 /// the function's own byte with at most seven prefix bytes before it. `pfix` and `nfix` are not

@@ -3,7 +3,9 @@ use Rattle.std.specs.Int.{w32}
 use Rattle.std.proofs.lemmas.Int.{to_z-of_z}
 use Rattle.tn_prefix.specs.Coding.{coding, coding_length}
 use Rattle.tn_prefix.specs.Operand.{loads, LoadsAll, word_of}
-use Rattle.tn_prefix.proofs.Loads.{LoadsAll-coding, loads-coding, same_found}
+use Rattle.tn_prefix.proofs.Cases.{same_found}
+use Rattle.tn_prefix.proofs.Loads.{loads-LoadsAll}
+use Rattle.tn_prefix.proofs.CodingLoads.{LoadsAll-coding}
 use Rattle.tn_prefix.proofs.Lengths.{length-coding}
 use Rattle.tn_prefix.proofs.coding.encode.Goals as goal
 
@@ -16,5 +18,5 @@ returns c =
       coding = bytes;
       loads = subst (λ (items : List ℕ). LoadsAll items f (word_of e)) (sym bytes) (LoadsAll-coding f e c.ranges.e c.requires);
       length = ap length bytes ∙ length-coding f e c.ranges.e;
-      followed = λ rest. ap (λ items. loads (items ++ rest)) bytes ∙ (loads-coding f e rest c.ranges.e c.requires ∙ same_found f f (word_of e) (word_of e) (length (coding f e)) (coding_length e) refl refl (length-coding f e c.ranges.e));
+      followed = λ rest. ap (λ items. loads (items ++ rest)) bytes ∙ (loads-LoadsAll (LoadsAll-coding f e c.ranges.e c.requires) rest ∙ same_found f f (word_of e) (word_of e) (length (coding f e)) (coding_length e) refl refl (length-coding f e c.ranges.e));
     }

@@ -1,8 +1,8 @@
-use Rattle.std.proofs.Common.{rules, ◌≡◌, ◌↔◌, take, All, IsTrue, IsNone, IfSome, ℕ, ◌+◌, ◌-◌, ◌*◌, ◌<◌, ◌≤◌, length, sym, refl, ap, ◌∙◌, ◌/◌, ◌%◌, Bool, true, false, nat_eq, nat_lt, List, [], ◌∷◌, ◌++◌, slice_index_or, slice_set, bit_and, bit_or, Fits, w8, w32, w64, Bor, MutBor}
+use Rattle.std.proofs.Common.{◌≡◌, take, sym, refl, ap, ◌∙◌}
 use Rattle.tn_prefix.specs.Coding.{is_prefix, IsCoded}
 use Rattle.tn_isa.specs.declared.functions.Fun.TheVariants.{Pfix, Nfix}
-use Rattle.tn_prefix.specs.Operand.{IsPrefix, shifted, loaded, function_of, loads, LoadsAll}
-use Rattle.tn_prefix.proofs.Loads.{loads_from-append, loads_from-prefixes, register_after_more, loads_at, LoadsAll-at}
+use Rattle.tn_prefix.specs.Operand.{IsPrefix, shifted}
+use Rattle.tn_prefix.proofs.Loads.{loads_from-prefixes, register_after_more, loads_at, LoadsAll-at}
 use Rattle.tn_prefix.proofs.Instructions.{IsCoded-other}
 use Rattle.std.proofs.lemmas.Bool.{true≢false}
 use Rattle.std.proofs.lemmas.List.{take_all}
@@ -24,8 +24,9 @@ returns-in_default c =
 pub loop-index-preserved : goal.loop-index-preserved
 loop-index-preserved c =
     elim c.match-fun_of.branch [
-      in-Pfix w ↦ register_after_more c.args.bytes.now c.loop-index.index c.loop-index.register Pfix c.match-fun_of.register c.loop-index-test.true c.loop-index.invariant.0 c.loop-index.invariant.1 (sym c.fun_of.ensures.value ∙ w.in-Pfix.is) refl (w.register-is ∙ ap (shifted Pfix) c.loaded-operand.ensures)
-    | in-Nfix w ↦ register_after_more c.args.bytes.now c.loop-index.index c.loop-index.register Nfix c.match-fun_of.register c.loop-index-test.true c.loop-index.invariant.0 c.loop-index.invariant.1 (sym c.fun_of.ensures.value ∙ w.in-Nfix.is) refl (w.register-is ∙ ap (shifted Nfix) c.loaded-operand.ensures) ]
+      | in-Pfix w ↦ register_after_more c.args.bytes.now c.loop-index.index c.loop-index.register Pfix c.match-fun_of.register c.loop-index-test.true c.loop-index.invariant.0 c.loop-index.invariant.1 (sym c.fun_of.ensures.value ∙ w.in-Pfix.is) refl (w.register-is ∙ ap (shifted Pfix) c.loaded-operand.ensures)
+      | in-Nfix w ↦ register_after_more c.args.bytes.now c.loop-index.index c.loop-index.register Nfix c.match-fun_of.register c.loop-index-test.true c.loop-index.invariant.0 c.loop-index.invariant.1 (sym c.fun_of.ensures.value ∙ w.in-Nfix.is) refl (w.register-is ∙ ap (shifted Nfix) c.loaded-operand.ensures)
+    ]
 
 pub returns-clause-value : goal.returns-clause-value
 returns-clause-value c =
