@@ -1,5 +1,5 @@
 -- The loader's listed bytes are its tables, assembled, and each row stands at its offset.
-use Rattle.std.proofs.Common.{◌≡◌, ℕ, zero, suc, ◌<◌, map, refl, arith}
+use Rattle.std.proofs.Common.{◌≡◌, ℕ, zero, suc, ◌<◌, length, map, refl, arith}
 use Rattle.tn_prefix.specs.Coding.{coding, coding_up_to, coding_length}
 use Rattle.tn_loader.specs.Instructions.{assembled_from, assembled, StandAtOffsets}
 use Rattle.tn_loader.specs.Primary.{primary_table, primary_bytes}
@@ -16,12 +16,12 @@ each_link P a b c d (suc (suc (suc (suc k)))) h = absurd (omega arith)
 
 -- the listed bytes of the primary are those of its table
 pub assembled-primary_table : (k : ℕ) → k < 4 → assembled (primary_table k) ≡ primary_bytes k
-unfolding assembled assembled_from coding coding_up_to coding_length
+unfolding primary_table primary_bytes assembled assembled_from coding coding_up_to coding_length
 assembled-primary_table = each_link (λ k. assembled (primary_table k) ≡ primary_bytes k) refl refl refl refl
 
 -- the rows of the primary stand where they say
 pub primary_table_stands : (k : ℕ) → k < 4 → StandAtOffsets (primary_table k)
-unfolding assembled_from coding coding_up_to coding_length starts
+unfolding primary_table assembled_from coding coding_up_to coding_length starts
 primary_table_stands = each_link (λ k. StandAtOffsets (primary_table k)) (stands 0 refl) (stands 1 refl) (stands 2 refl) (stands 3 refl)
   where
     stands : (k : ℕ) → map (λ r. r.offset) (primary_table k) ≡ starts 0 (primary_table k) → StandAtOffsets (primary_table k)
@@ -29,10 +29,20 @@ primary_table_stands = each_link (λ k. StandAtOffsets (primary_table k)) (stand
 
 -- the listed bytes of the secondary are those of its table
 pub assembled-secondary_table : assembled secondary_table ≡ secondary_bytes
-unfolding assembled assembled_from coding coding_up_to coding_length
+unfolding secondary_table secondary_bytes assembled assembled_from coding coding_up_to coding_length
 assembled-secondary_table = refl
 
 -- the rows of the secondary stand where they say
 pub secondary_table_stands : StandAtOffsets secondary_table
-unfolding assembled_from coding coding_up_to coding_length starts
+unfolding secondary_table assembled_from coding coding_up_to coding_length starts
 secondary_table_stands = stand_at_offsets secondary_table refl
+
+-- the primary has 57 bytes
+pub length-primary_bytes : (k : ℕ) → length (primary_bytes k) ≡ 57
+unfolding primary_bytes
+length-primary_bytes k = refl
+
+-- the secondary has 55 bytes
+pub length-secondary_bytes : length secondary_bytes ≡ 55
+unfolding secondary_bytes
+length-secondary_bytes = refl

@@ -3,7 +3,7 @@ use Rattle.std.specs.Prelude.{ℕ, List, ◌++◌}
 use Rattle.tn_word.specs.Words.{bytes_of_word}
 
 -- a command: its operation and its two arguments, each a word
-abbrev pub command_bytes : ℕ → ℕ → ℕ → List ℕ
+unfoldable pub command_bytes : ℕ → ℕ → ℕ → List ℕ
 command_bytes op x n = bytes_of_word op ++ bytes_of_word x ++ bytes_of_word n
 
 -- LOAD: so many bytes follow, which go to an address

@@ -4,7 +4,7 @@ use Rattle.tn_loader.specs.Instructions.{Row, row}
 use Rattle.tn_loader.specs.Mnemonics.{ldlp, ldc, ldnlp, ldl, ajw, stl, stnl, gcall, input, sthf, stlf, testerr, gajw, mint, sttimer, clrhalterr}
 
 -- the instructions for a boot by link k, whose input channel is 4 + k words above MostNeg
-abbrev pub primary_table : ℕ → List Row
+unfoldable pub primary_table : ℕ → List Row
 primary_table k =
     row 0 (ajw 4 ∷ [])
     ∷ row 1 (testerr ∷ clrhalterr ∷ [])
@@ -19,7 +19,7 @@ primary_table k =
     ∷ []
 
 -- its bytes, a line for each row of the table
-abbrev pub primary_bytes : ℕ → List ℕ
+unfoldable pub primary_bytes : ℕ → List ℕ
 primary_bytes k =
     0xB4
     ∷ 0x22 ∷ 0xF9 ∷ 0x25 ∷ 0xF7

@@ -7,7 +7,7 @@ use Rattle.tn_loader.specs.Instructions.{Row, row}
 use Rattle.tn_loader.specs.Mnemonics.{j_to, ldlp, ldc, ldl, cj_to, eqc, stl, rev, diff, gcall, input, gt, output, gajw}
 
 -- the instructions
-abbrev pub secondary_table : List Row
+unfoldable pub secondary_table : List Row
 secondary_table =
     row 0 (ldlp 0 ∷ ldl 3 ∷ ldc 12 ∷ input ∷ [])
     ∷ row 4 (ldl 0 ∷ cj_to 49 ∷ [])
@@ -25,7 +25,7 @@ secondary_table =
     ∷ []
 
 -- its bytes, a line for each row of the table
-abbrev pub secondary_bytes : List ℕ
+unfoldable pub secondary_bytes : List ℕ
 secondary_bytes =
     0x10 ∷ 0x73 ∷ 0x4C ∷ 0xF7
     ∷ 0x70 ∷ 0x22 ∷ 0xAA

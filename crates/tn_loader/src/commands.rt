@@ -20,6 +20,7 @@ pub const NOP: u32 = 3;
 pub const COMMAND_SIZE: usize = 12;
 
 /// A command of the secondary loader: the words `op`, `x` and `n`, each with its lowest byte first.
+#[tactic(auto, unfolding(crate::specs::Commands::command_bytes))]
 pub fn command(op: u32, x: u32, n: u32) -> [u8; COMMAND_SIZE]
     ensures bytes { result ≡ command_bytes op x n }
     ensures op { word_from result 0 ≡ Some op }

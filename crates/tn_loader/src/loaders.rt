@@ -46,6 +46,7 @@ pub const SECONDARY: [u8; SECONDARY_SIZE] = [
 /// The code of the primary bootstrap for a processor that boots by link `k`, which is below 4. It
 /// clears the flags and queues, stores the secondary loader that comes by the same link, and
 /// calls it. It is this project's own.
+#[tactic(auto, unfolding(crate::specs::Primary::primary_bytes))]
 pub fn primary(k: u8) -> [u8; PRIMARY_SIZE]
     requires { k < 4 }
     ensures bytes { result ≡ primary_bytes k }
@@ -82,6 +83,7 @@ pub fn primary(k: u8) -> [u8; PRIMARY_SIZE]
 }
 
 /// The code of the secondary loader.
+#[tactic(auto, unfolding(crate::specs::Secondary::secondary_bytes, crate::specs::Secondary::secondary_table))]
 pub fn secondary() -> [u8; SECONDARY_SIZE]
     ensures bytes { result ≡ secondary_bytes }
 
