@@ -1,10 +1,8 @@
 //! `tn`, a linker and boot-stream builder for networks of Inmos T425 transputers.
 #![tactic(auto)]
 
-use std::env;
-use std::io;
 use std::process::ExitCode;
-
+use std::{env, io};
 use tn_io::{HostOut, HostStore};
 use tn_top::{Status, code, run};
 
@@ -26,7 +24,10 @@ fn main(rt: HostRuntime) -> ExitCode {
 /// The words after the program's name: want of memory is told apart from words that aren't text.
 fn words_of(rt: &HostRuntime) -> Result<Vec<String>, Status> {
     match env::args(rt) {
-        Ok(words) => words.skip(1).collect(rt.alloc()).map_err(|_| Status::NoMemory),
+        Ok(words) => words
+            .skip(1)
+            .collect(rt.alloc())
+            .map_err(|_| Status::NoMemory),
         Err(error) if error.kind() == io::ErrorKind::OutOfMemory => Err(Status::NoMemory),
         Err(_) => Err(Status::Usage),
     }

@@ -1,4 +1,4 @@
-ghost use Rattle.std.specs.Prelude.{None};
+ghost use Rattle.std.specs.Prelude.{◌≡◌, None};
 
 use crate::faults::{OutFault, count_fault};
 use crate::outs::Out;
@@ -20,8 +20,10 @@ pub struct HostOut<'a, R: Print + Eprint> {
 }
 
 impl<'a, R: Print + Eprint> HostOut<'a, R> {
-    /// The standard output.
-    pub fn standard(rt: &'a R) -> HostOut<'a, R> {
+    /// The standard output. Nothing has failed.
+    pub fn standard(rt: &'a R) -> HostOut<'a, R>
+        ensures { ⟦<HostOut<'a, R> as Out>⟧.printed result ≡ record { bytes = None; faults = 0 } }
+    {
         HostOut {
             rt,
             stream: Stream::Standard,
@@ -29,8 +31,10 @@ impl<'a, R: Print + Eprint> HostOut<'a, R> {
         }
     }
 
-    /// The standard error. A piece that isn't text counts as a failure.
-    pub fn error(rt: &'a R) -> HostOut<'a, R> {
+    /// The standard error. Nothing has failed. A piece that isn't text counts as a failure.
+    pub fn error(rt: &'a R) -> HostOut<'a, R>
+        ensures { ⟦<HostOut<'a, R> as Out>⟧.printed result ≡ record { bytes = None; faults = 0 } }
+    {
         HostOut {
             rt,
             stream: Stream::Error,

@@ -21,8 +21,10 @@ pub struct HostStore<'a, R: Files> {
 }
 
 impl<'a, R: Files> HostStore<'a, R> {
-    /// The files of this runtime.
-    pub fn new(rt: &'a R) -> HostStore<'a, R> {
+    /// The files of this runtime. No file is open, and nothing has failed.
+    pub fn new(rt: &'a R) -> HostStore<'a, R>
+        ensures { ⟦<HostStore<'a, R> as Store>⟧.stored result ≡ record { files = None; opened = None; read_faults = 0; write_faults = 0 } }
+    {
         HostStore {
             rt,
             opened: None,

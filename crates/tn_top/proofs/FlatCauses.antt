@@ -91,6 +91,7 @@ module _ (words : List (List ℕ)) (source target : List ℕ) (asks : Some (flat
       told_missing : (files : Option Files) → IsSomeAnd files (λ fs. answer words fs ≡ unread source) → IfTold files (λ fs. Says (answer words fs) before after ReadFault)
       told_missing None m = tt
       told_missing (Some fs) m = same (ap status_of (sym m))
+
       at : Rose before.read_faults after.read_faults ⊎ (told before.files source ≡ Some None) → IfTold before.files (λ fs. Says (answer words fs) before after ReadFault)
       at (inl rose) = absurd (calm rose)
       at (inr e) = told_missing before.files (unread_missing before.files e)

@@ -19,6 +19,7 @@ behind_line line p (c ∷ cs) = at (p c) (slice_split p cs)
     onto : (parts : List (List ℕ)) → plain_lines (line ∷ onto_first c parts) ≡ (plain_line line >>= λ i. option_map (λ is. i ∷ is) (plain_lines (onto_first c parts)))
     onto [] = refl
     onto (part ∷ parts) = refl
+
     at : (b : Bool) (parts : List (List ℕ)) → plain_lines (line ∷ cond b ([] ∷ parts) (onto_first c parts)) ≡ (plain_line line >>= λ i. option_map (λ is. i ∷ is) (plain_lines (cond b ([] ∷ parts) (onto_first c parts))))
     at true parts = refl
     at false parts = onto parts

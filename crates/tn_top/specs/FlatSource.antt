@@ -24,6 +24,7 @@ natural_of digits = if nat_le 1 (length digits) && (nat_le (length digits) 10 &&
 -- n and -n as signed words
 abbrev pub positive : ℕ → Option ℤ
 positive n = if nat_lt n (2 ^ 31) then Some (pos n) else None
+
 abbrev pub negative : ℕ → Option ℤ
 negative n = if nat_le n (2 ^ 31) then Some (neg_ℤ (pos n)) else None
 

@@ -4,11 +4,10 @@ ghost use Rattle.std.specs.List.{slice_split};
 ghost use Rattle.tn_top.specs.FlatSource.{natural_of, number_of, plain_line, flat_of, cut, code_of as code_of_flat};
 ghost use Rattle.tn_top.specs.Instructions.{instruction_of};
 
+use crate::instructions::Instruction;
 use std::alloc::{AllocError, AllocFailed, Global};
 use tn_isa::{Mnemonic, mnemonic_spelled};
 use tn_prefix::encode;
-
-use crate::instructions::Instruction;
 
 /// Why a text gives no instructions.
 #[derive(Clone, Copy, PartialEq)]
