@@ -1,5 +1,5 @@
 pub mod Puts
 pub mod Numbers
 pub mod FlatLines
-pub mod FlatSteps
-pub mod FlatCauses
+pub mod SourceSteps
+pub mod Causes

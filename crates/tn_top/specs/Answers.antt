@@ -17,35 +17,41 @@ pub data Answer : Type 0 where
   limit : (word : List ℕ) (count : ℕ) → Answer
   done : (written : Option (List ℕ × List ℕ)) (printed : List ℕ) → Answer
 
--- what a file gives as a flat source: nothing, since it is missing, too long, or no list of plain
--- lines; or code
+-- what a file gives as a flat source: nothing, since it is missing, too long, no list of plain
+-- lines, or has too many bytes of code; or code
 pub data Coded : Type 0 where
   missing : Coded
   too_long : Coded
   not_plain : Coded
+  too_much : (count : ℕ) → Coded
   code : (bytes : List ℕ) → Coded
+
+-- code of at most 262,144 bytes
+abbrev pub within_limit : List ℕ → Coded
+within_limit bytes = if nat_lt 262144 (length bytes) then too_much (length bytes) else code bytes
 
 -- the code of a text, where it is a flat source
 abbrev pub coded_lines : Option (List (Fun × ℤ)) → Coded
 coded_lines None = not_plain
-coded_lines (Some instructions) = code (code_of instructions)
+coded_lines (Some instructions) = within_limit (code_of instructions)
 
 -- the code of a file of at most 1,048,576 bytes
 unfoldable pub coded : Option (List ℕ) → Coded
 coded None = missing
 coded (Some text) = if nat_lt 1048576 (length text) then too_long else coded_lines (flat_of text)
 
--- the answer where a file gives this and its code goes to another
-abbrev pub flat_answer : List ℕ → List ℕ → Coded → Answer
-flat_answer source target missing = unread source
-flat_answer source target too_long = limit (codes "file") 1048577
-flat_answer source target not_plain = fault source
-flat_answer source target (code bytes) = done (Some (target, bytes)) []
+-- the answer where a file gives this, and what is made of its code goes to another
+abbrev pub source_answer : List ℕ → List ℕ → (List ℕ → List ℕ) → Coded → Answer
+source_answer source target made missing = unread source
+source_answer source target made too_long = limit (codes "file") 1048577
+source_answer source target made not_plain = fault source
+source_answer source target made (too_much count) = limit (codes "code") count
+source_answer source target made (code bytes) = done (Some (target, made bytes)) []
 
 -- the answer to what was asked
 abbrev pub answer_to : Option Asked → Files → Answer
 answer_to None files = usage
-answer_to (Some (flat source target)) files = flat_answer source target (coded (held files source))
+answer_to (Some (flat source target)) files = source_answer source target (λ bytes. bytes) (coded (held files source))
 
 -- the answer to words
 abbrev pub answer : List (List ℕ) → Files → Answer

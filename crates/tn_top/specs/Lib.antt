@@ -3,5 +3,5 @@ pub mod Words
 pub mod FlatSource
 pub mod Answers
 pub mod Outcomes
-pub mod Flat
+pub mod Sources
 pub mod Instructions

@@ -1,9 +1,9 @@
 ghost use Rattle.std.specs.Prelude.{◌≡◌, ◌≤◌, ◌↔◌, ◌⊎◌, ℕ, List, map, length, Some, None, IfOk, IfErr, string_bytes};
 ghost use Rattle.tn_io.specs.Faults.{Rose};
 ghost use Rattle.tn_top.specs.Words.{asked, seen, HasFileNames};
-ghost use Rattle.tn_top.specs.Answers.{answer, status_of, coded, not_plain, fault, limit, code};
+ghost use Rattle.tn_top.specs.Answers.{answer, status_of, coded, fault, limit, code};
 ghost use Rattle.tn_top.specs.Outcomes.{Told, IfTold, Cause, NothingFailed, FilesAfter};
-ghost use Rattle.tn_top.specs.Flat.{IsCodeOf, IsRefusal, FlatEnds, Ends};
+ghost use Rattle.tn_top.specs.Sources.{IsCodeOf, IsRefusal, IsNoCode, SourceEnds, Ends};
 
 use crate::files::put_file;
 use crate::flat_source::{FlatFault, code_of, read_flat};
@@ -14,6 +14,9 @@ use tn_io::{GetFault, Out, PutFault, Store};
 
 /// The most bytes that a file may have.
 const FILE_LIMIT: u64 = 1_048_576;
+
+/// The most bytes of code that a processor may have.
+const CODE_LIMIT: usize = 262_144;
 
 /// Runs the command that the words after the program's name spell.
 pub fn run<S: Store, O: Out>(
@@ -68,7 +71,7 @@ fn perform<S: Store>(alloc: Global, command: Command<'_>, store: &mut S) -> Stat
 fn flat<S: Store>(alloc: Global, source: &str, target: &str, store: &mut S) -> Status
     requires source { length source.now ≤ 255 }
     requires target { length target.now ≤ 255 }
-    ensures { FlatEnds source.now target.now (S.stored store.old) (S.stored store.new) result }
+    ensures { SourceEnds source.now target.now (λ bytes. bytes) (S.stored store.old) (S.stored store.new) result }
 {
     let code = match flat_code(alloc, source, store) {
         Ok(code) => code,
@@ -101,7 +104,7 @@ fn flat_code<S: Store>(alloc: Global, source: &str, store: &mut S) -> Result<Vec
 fn code_of_text(alloc: Global, text: &[u8]) -> Result<Vec<u8>, Status>
     requires { length text.now ≤ 1048576 }
     ensures ok { IfOk result (λ bytes. coded (Some text.now) ≡ code bytes.items) }
-    ensures err { IfErr result (λ status. (status ≡ Status.NoMemory) ⊎ ((status ≡ Status.Fault) × (coded (Some text.now) ≡ not_plain))) }
+    ensures err { IfErr result (IsNoCode text.now) }
 {
     let instructions = match read_flat(alloc, text) {
         Ok(instructions) => instructions,
@@ -109,6 +112,7 @@ fn code_of_text(alloc: Global, text: &[u8]) -> Result<Vec<u8>, Status>
         Err(FlatFault::NoMemory) => return Err(Status::NoMemory),
     };
     match code_of(alloc, &instructions) {
+        Ok(code) if code.len() > CODE_LIMIT => Err(Status::Limit),
         Ok(code) => Ok(code),
         Err(AllocError) => Err(Status::NoMemory),
     }

@@ -1,5 +1,5 @@
 use Rattle.tn_io.specs.Stores.{told}
-use Rattle.tn_top.proofs.FlatSteps.{coded-too_long}
+use Rattle.tn_top.proofs.SourceSteps.{coded-too_long}
 use Rattle.tn_top.proofs.commands.flat_code.Goals as goal
 
 pub returns-in-Err-TooLong-clause-err : goal.returns-in-Err-TooLong-clause-err

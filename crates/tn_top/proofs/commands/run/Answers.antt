@@ -1,6 +1,6 @@
 use Rattle.std.proofs.Common.{map, string_bytes}
 use Rattle.tn_top.specs.Words.{seen}
-use Rattle.tn_top.proofs.FlatCauses.{ends_cause, ends_status, ends_fault, ends_limit, ends_files, ends_closed}
+use Rattle.tn_top.proofs.Causes.{ends_cause, ends_status, ends_fault, ends_limit, ends_files, ends_closed}
 use Rattle.tn_top.proofs.commands.run.Goals as goal
 
 pub returns-in-Some-clause-cause : goal.returns-in-Some-clause-cause

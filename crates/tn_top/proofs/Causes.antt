@@ -1,4 +1,4 @@
--- What follows of a flat command from how it ends.
+-- What follows of a command from how it ends.
 use Rattle.std.proofs.Common.{◌≡◌, ◌≢◌, ℕ, ◌⊎◌, inl, inr, not, Bool, true, false, cond, List, [], ◌∷◌, filter, codes, Option, Some, None, IfSome, IsSomeAnd, refl, sym, ap, ◌∙◌, subst}
 use Rattle.std.specs.Str.{bytes_eq}
 use Rattle.tn_io.specs.Faults.{Rose}
@@ -7,9 +7,9 @@ use Rattle.tn_io.specs.Stores.{Stored, told}
 use Rattle.tn_top.specs.declared.statuses.Status.{Status}
 use Rattle.tn_top.specs.declared.statuses.Status.TheVariants.{Done, Fault, Usage, Limit, ReadFault, WriteFault, OutFault, NoMemory, NotEnabled}
 use Rattle.tn_top.specs.Words.{Asked, asked, flat}
-use Rattle.tn_top.specs.Answers.{Answer, usage, unread, fault, limit, done, Coded, coded, missing, too_long, not_plain, code, flat_answer, answer_to, answer, status_of}
+use Rattle.tn_top.specs.Answers.{Answer, usage, unread, fault, limit, done, Coded, coded, missing, too_long, too_much, not_plain, code, source_answer, answer_to, answer, status_of}
 use Rattle.tn_top.specs.Outcomes.{Told, IfTold, SameFiles, Holds, HoldsPart, without, IsDone, CannotRead, Cause, NothingFailed, FilesAfter}
-use Rattle.tn_top.specs.Flat.{IsCodeOf, IsRefusal, FlatEnds, Ends}
+use Rattle.tn_top.specs.Sources.{IsCodeOf, IsRefusal, SourceEnds, Ends}
 use Rattle.tn_top.proofs.Puts.{told-weaker, told-same, part-same}
 
 -- a name holds nothing once its files are left out
@@ -27,11 +27,6 @@ if_told : (files : Option Files) (name : List ℕ) (P : Option (List ℕ) → Ty
 if_told None name P Q f h = tt
 if_told (Some fs) name P Q f h = f fs h
 
--- the answer, by what the source gives
-answered : (words : List (List ℕ)) (source target : List ℕ) (files : Files) (gives : Coded) → Some (flat source target) ≡ asked words → coded (held files source) ≡ gives → answer words files ≡ flat_answer source target gives
-answered words source target files gives asks e =
-    ap (λ what. answer_to what files) (sym asks) ∙ ap (flat_answer source target) e
-
 done_by : (a : Answer) (written : Option (List ℕ × List ℕ)) (printed : List ℕ) → a ≡ done written printed → IsDone a
 done_by a written printed e = subst IsDone (sym e) tt
 
@@ -40,9 +35,20 @@ data Says (a : Answer) (before after : Stored) : Status → Type 0 where
   unwritten : Rose before.write_faults after.write_faults → IsDone a → Says a before after WriteFault
   memory : Says a before after NoMemory
 
-module _ (words : List (List ℕ)) (source target : List ℕ) (asks : Some (flat source target) ≡ asked words) (before after : Stored) where
-  told_says : (gives : Coded) → IfSome (told before.files source) (λ file. coded file ≡ gives) → IfTold before.files (λ files. answer words files ≡ flat_answer source target gives)
-  told_says gives h = if_told before.files source (λ file. coded file ≡ gives) (λ files. answer words files ≡ flat_answer source target gives) (λ files e. answered words source target files gives asks e) h
+-- words that ask for what is made of the code of a flat source
+abbrev AsksFor : List (List ℕ) → List ℕ → List ℕ → (List ℕ → List ℕ) → Type 0
+AsksFor words source target made = (files : Files) → answer words files ≡ source_answer source target made (coded (held files source))
+
+module _ (words : List (List ℕ)) (source target : List ℕ) (made : List ℕ → List ℕ) (asks : AsksFor words source target made) (before after : Stored) where
+  said : (files : Files) (gives : Coded) → coded (held files source) ≡ gives → answer words files ≡ source_answer source target made gives
+  said files gives e = asks files ∙ ap (source_answer source target made) e
+
+  told_says : (gives : Coded) → IfSome (told before.files source) (λ file. coded file ≡ gives) → IfTold before.files (λ files. answer words files ≡ source_answer source target made gives)
+  told_says gives h = if_told before.files source (λ file. coded file ≡ gives) (λ files. answer words files ≡ source_answer source target made gives) (λ files e. said files gives e) h
+
+  limited : (files : Files) → (coded (held files source) ≡ too_long) ⊎ ((count : ℕ) × (coded (held files source) ≡ too_much count)) → (word : List ℕ) × (count : ℕ) × (answer words files ≡ limit word count)
+  limited files (inl e) = (codes "file", 1048577, said files too_long e)
+  limited files (inr p) = (codes "code", p.0, said files (too_much p.0) p.1)
 
   more : {P Q : Files → Type 0} (files : Option Files) → ((fs : Files) → P fs → Q fs) → IfTold files P → IfTold files Q
   more None f h = tt
@@ -52,41 +58,41 @@ module _ (words : List (List ℕ)) (source target : List ℕ) (asks : Some (flat
   unread_without : (files : Option Files) → IfTold files (λ fs. answer words (without fs source) ≡ unread source)
   unfolding coded
   unread_without None = tt
-  unread_without (Some fs) = answered words source target (without fs source) missing asks (ap coded (held-without fs source))
+  unread_without (Some fs) = said (without fs source) missing (ap coded (held-without fs source))
 
   unread_missing : (files : Option Files) → told files source ≡ Some None → IsSomeAnd files (λ fs. answer words fs ≡ unread source)
   unfolding coded
   unread_missing None e = absurd cc
-  unread_missing (Some fs) e = answered words source target fs missing asks (ap coded (some_same e))
+  unread_missing (Some fs) e = said fs missing (ap coded (some_same e))
     where
       some_same : Some (held fs source) ≡ Some None → held fs source ≡ None
       some_same e = cc
 
-  flat_cause : (status : Status) → FlatEnds source target before after status → Cause words before after status
-  unfolding FlatEnds
-  flat_cause Done h = more before.files (λ fs e. done_by (answer words fs) (Some (target, h.1.0)) [] e) (told_says (code h.1.0) h.1.1)
-  flat_cause Fault h = more before.files (λ fs e. (source, e)) (told_says not_plain h.1)
-  flat_cause Usage h = absurd h.1
-  flat_cause Limit h = more before.files (λ fs e. (codes "file", 1048577, e)) (told_says too_long h.1)
-  flat_cause ReadFault h = (source, at h.1)
+  source_cause : (status : Status) → SourceEnds source target made before after status → Cause words before after status
+  unfolding SourceEnds
+  source_cause Done h = more before.files (λ fs e. done_by (answer words fs) (Some (target, made h.1.0)) [] e) (told_says (code h.1.0) h.1.1)
+  source_cause Fault h = more before.files (λ fs e. (source, e)) (told_says not_plain h.1)
+  source_cause Usage h = absurd h.1
+  source_cause Limit h = if_told before.files source (λ file. (coded file ≡ too_long) ⊎ ((count : ℕ) × (coded file ≡ too_much count))) (λ fs. (word : List ℕ) × (count : ℕ) × (answer words fs ≡ limit word count)) limited h.1
+  source_cause ReadFault h = (source, at h.1)
     where
       at : Rose before.read_faults after.read_faults ⊎ (told before.files source ≡ Some None) → CannotRead words before after source
       at (inl rose) = inr (rose, unread_without before.files)
       at (inr e) = inl (unread_missing before.files e)
-  flat_cause WriteFault h = (h.0, more before.files (λ fs e. done_by (answer words fs) (Some (target, h.1.0)) [] e) (told_says (code h.1.0) h.1.1))
-  flat_cause OutFault h = absurd h.1
-  flat_cause NoMemory h = tt
-  flat_cause NotEnabled h = absurd h.1
+  source_cause WriteFault h = (h.0, more before.files (λ fs e. done_by (answer words fs) (Some (target, made h.1.0)) [] e) (told_says (code h.1.0) h.1.1))
+  source_cause OutFault h = absurd h.1
+  source_cause NoMemory h = tt
+  source_cause NotEnabled h = absurd h.1
 
   -- What a status says of the answer: it is the answer's status, or want of memory, or a failed
   -- write of an answer that was done.
-  flat_says : (status : Status) → FlatEnds source target before after status → (Rose before.read_faults after.read_faults → ⊥) → IfTold before.files (λ fs. Says (answer words fs) before after status)
-  unfolding FlatEnds
-  flat_says Done h calm = more before.files (λ fs e. same (ap status_of (sym e))) (told_says (code h.1.0) h.1.1)
-  flat_says Fault h calm = more before.files (λ fs e. same (ap status_of (sym e))) (told_says not_plain h.1)
-  flat_says Usage h calm = absurd h.1
-  flat_says Limit h calm = more before.files (λ fs e. same (ap status_of (sym e))) (told_says too_long h.1)
-  flat_says ReadFault h calm = at h.1
+  source_says : (status : Status) → SourceEnds source target made before after status → (Rose before.read_faults after.read_faults → ⊥) → IfTold before.files (λ fs. Says (answer words fs) before after status)
+  unfolding SourceEnds
+  source_says Done h calm = more before.files (λ fs e. same (ap status_of (sym e))) (told_says (code h.1.0) h.1.1)
+  source_says Fault h calm = more before.files (λ fs e. same (ap status_of (sym e))) (told_says not_plain h.1)
+  source_says Usage h calm = absurd h.1
+  source_says Limit h calm = if_told before.files source (λ file. (coded file ≡ too_long) ⊎ ((count : ℕ) × (coded file ≡ too_much count))) (λ fs. Says (answer words fs) before after Limit) (λ fs r. same (ap status_of (sym (limited fs r).2))) h.1
+  source_says ReadFault h calm = at h.1
     where
       told_missing : (files : Option Files) → IsSomeAnd files (λ fs. answer words fs ≡ unread source) → IfTold files (λ fs. Says (answer words fs) before after ReadFault)
       told_missing None m = tt
@@ -95,14 +101,14 @@ module _ (words : List (List ℕ)) (source target : List ℕ) (asks : Some (flat
       at : Rose before.read_faults after.read_faults ⊎ (told before.files source ≡ Some None) → IfTold before.files (λ fs. Says (answer words fs) before after ReadFault)
       at (inl rose) = absurd (calm rose)
       at (inr e) = told_missing before.files (unread_missing before.files e)
-  flat_says WriteFault h calm = more before.files (λ fs e. unwritten h.0 (done_by (answer words fs) (Some (target, h.1.0)) [] e)) (told_says (code h.1.0) h.1.1)
-  flat_says OutFault h calm = absurd h.1
-  flat_says NoMemory h calm = always before.files
+  source_says WriteFault h calm = more before.files (λ fs e. unwritten h.0 (done_by (answer words fs) (Some (target, made h.1.0)) [] e)) (told_says (code h.1.0) h.1.1)
+  source_says OutFault h calm = absurd h.1
+  source_says NoMemory h calm = always before.files
     where
       always : (files : Option Files) → IfTold files (λ fs. Says (answer words fs) before after NoMemory)
       always None = tt
       always (Some fs) = memory
-  flat_says NotEnabled h calm = absurd h.1
+  source_says NotEnabled h calm = absurd h.1
 
 -- where no call failed, the status is the answer's, unless memory ran out
 status_said : (a : Answer) (before after : Stored) (status : Status) → NothingFailed before after → Says a before after status → (status ≡ NoMemory) ⊎ (status ≡ status_of a)
@@ -148,41 +154,44 @@ put_told words target bytes status P None new f t e = tt
 put_told words target bytes status P (Some fs) new f t e =
     subst (λ a. Told (Some fs) new (FilesAfter a status)) (sym e) (told-weaker (Some fs) new f t)
 
-flat_files : (words : List (List ℕ)) (source target : List ℕ) → Some (flat source target) ≡ asked words → (before after : Stored) (status : Status) → FlatEnds source target before after status → IfTold before.files (λ fs. Told before.files after.files (FilesAfter (answer words fs) status))
-unfolding FlatEnds
-flat_files words source target asks before after Done h =
-    put_told words target h.1.0 Done (Holds target h.1.0) before.files after.files (λ fs gs p. p) h.1.2 (told_says words source target asks before after (code h.1.0) h.1.1)
-flat_files words source target asks before after Fault h = kept_told words Fault before.files after.files h.0 (λ e. cc) (λ e. cc)
-flat_files words source target asks before after Usage h = absurd h.1
-flat_files words source target asks before after Limit h = kept_told words Limit before.files after.files h.0 (λ e. cc) (λ e. cc)
-flat_files words source target asks before after ReadFault h = kept_told words ReadFault before.files after.files h.0 (λ e. cc) (λ e. cc)
-flat_files words source target asks before after WriteFault h =
-    put_told words target h.1.0 WriteFault (HoldsPart target h.1.0) before.files after.files (λ fs gs p. p) h.1.2 (told_says words source target asks before after (code h.1.0) h.1.1)
-flat_files words source target asks before after OutFault h = absurd h.1
-flat_files words source target asks before after NoMemory (inl e) = kept_told words NoMemory before.files after.files e (λ e. cc) (λ e. cc)
-flat_files words source target asks before after NoMemory (inr h) =
-    put_told words target h.0 NoMemory (HoldsPart target h.0) before.files after.files (λ fs gs p. p) h.2 (told_says words source target asks before after (code h.0) h.1)
-flat_files words source target asks before after NotEnabled h = absurd h.1
+source_files : (words : List (List ℕ)) (source target : List ℕ) (made : List ℕ → List ℕ) → AsksFor words source target made → (before after : Stored) (status : Status) → SourceEnds source target made before after status → IfTold before.files (λ fs. Told before.files after.files (FilesAfter (answer words fs) status))
+unfolding SourceEnds
+source_files words source target made asks before after Done h =
+    put_told words target (made h.1.0) Done (Holds target (made h.1.0)) before.files after.files (λ fs gs p. p) h.1.2 (told_says words source target made asks before after (code h.1.0) h.1.1)
+source_files words source target made asks before after Fault h = kept_told words Fault before.files after.files h.0 (λ e. cc) (λ e. cc)
+source_files words source target made asks before after Usage h = absurd h.1
+source_files words source target made asks before after Limit h = kept_told words Limit before.files after.files h.0 (λ e. cc) (λ e. cc)
+source_files words source target made asks before after ReadFault h = kept_told words ReadFault before.files after.files h.0 (λ e. cc) (λ e. cc)
+source_files words source target made asks before after WriteFault h =
+    put_told words target (made h.1.0) WriteFault (HoldsPart target (made h.1.0)) before.files after.files (λ fs gs p. p) h.1.2 (told_says words source target made asks before after (code h.1.0) h.1.1)
+source_files words source target made asks before after OutFault h = absurd h.1
+source_files words source target made asks before after NoMemory (inl e) = kept_told words NoMemory before.files after.files e (λ e. cc) (λ e. cc)
+source_files words source target made asks before after NoMemory (inr h) =
+    put_told words target (made h.0) NoMemory (HoldsPart target (made h.0)) before.files after.files (λ fs gs p. p) h.2 (told_says words source target made asks before after (code h.0) h.1)
+source_files words source target made asks before after NotEnabled h = absurd h.1
 
-flat_closed : (source target : List ℕ) (before after : Stored) (status : Status) → FlatEnds source target before after status → status ≡ Done → after.opened ≡ None
-unfolding FlatEnds
-flat_closed source target before after Done h e = h.0
-flat_closed source target before after Fault h e = absurd cc
-flat_closed source target before after Usage h e = absurd cc
-flat_closed source target before after Limit h e = absurd cc
-flat_closed source target before after ReadFault h e = absurd cc
-flat_closed source target before after WriteFault h e = absurd cc
-flat_closed source target before after OutFault h e = absurd cc
-flat_closed source target before after NoMemory h e = absurd cc
-flat_closed source target before after NotEnabled h e = absurd cc
+source_closed : (source target : List ℕ) (made : List ℕ → List ℕ) (before after : Stored) (status : Status) → SourceEnds source target made before after status → status ≡ Done → after.opened ≡ None
+unfolding SourceEnds
+source_closed source target made before after Done h e = h.0
+source_closed source target made before after Fault h e = absurd cc
+source_closed source target made before after Usage h e = absurd cc
+source_closed source target made before after Limit h e = absurd cc
+source_closed source target made before after ReadFault h e = absurd cc
+source_closed source target made before after WriteFault h e = absurd cc
+source_closed source target made before after OutFault h e = absurd cc
+source_closed source target made before after NoMemory h e = absurd cc
+source_closed source target made before after NotEnabled h e = absurd cc
 
 -- what the clauses of `run` say, of any command
 module _ (words : List (List ℕ)) (before after : Stored) (status : Status) where
+  by_asked : (what : Option Asked) → what ≡ asked words → (files : Files) → answer words files ≡ answer_to what files
+  by_asked what asks files = ap (λ w. answer_to w files) (sym asks)
+
   pub ends_cause : (what : Asked) → Some what ≡ asked words → Ends what before after status → Cause words before after status
-  ends_cause (flat source target) asks h = flat_cause words source target asks before after status h
+  ends_cause (flat source target) asks h = source_cause words source target (λ bytes. bytes) (by_asked (Some (flat source target)) asks) before after status h
 
   says : (what : Asked) → Some what ≡ asked words → Ends what before after status → (Rose before.read_faults after.read_faults → ⊥) → IfTold before.files (λ fs. Says (answer words fs) before after status)
-  says (flat source target) asks h calm = flat_says words source target asks before after status h calm
+  says (flat source target) asks h calm = source_says words source target (λ bytes. bytes) (by_asked (Some (flat source target)) asks) before after status h calm
 
   told_more : {P Q : Files → Type 0} (files : Option Files) → ((fs : Files) → P fs → Q fs) → IfTold files P → IfTold files Q
   told_more None f h = tt
@@ -198,7 +207,7 @@ module _ (words : List (List ℕ)) (before after : Stored) (status : Status) whe
   ends_limit what asks h calm = told_more before.files (λ fs s word count e. limit_said (answer words fs) before after status word count e s) (says what asks h calm)
 
   pub ends_files : (what : Asked) → Some what ≡ asked words → Ends what before after status → IfTold before.files (λ fs. Told before.files after.files (FilesAfter (answer words fs) status))
-  ends_files (flat source target) asks h = flat_files words source target asks before after status h
+  ends_files (flat source target) asks h = source_files words source target (λ bytes. bytes) (by_asked (Some (flat source target)) asks) before after status h
 
   pub ends_closed : (what : Asked) → Ends what before after status → status ≡ Done → after.opened ≡ None
-  ends_closed (flat source target) h e = flat_closed source target before after status h e
+  ends_closed (flat source target) h e = source_closed source target (λ bytes. bytes) before after status h e

@@ -1,0 +1,69 @@
+-- The steps of a command that makes something of a flat source's code.
+use Rattle.std.proofs.Common.{◌≡◌, ℕ, ◌<◌, ◌≤◌, ◌⊎◌, inl, inr, ℤ, List, length, Option, Some, None, IfSome, IsSomeAnd, refl, sym, ap, subst, arith}
+use Rattle.std.proofs.lemmas.Bool.{lt-ltb, le-ltb}
+use Rattle.tn_isa.specs.declared.functions.Fun.{Fun}
+use Rattle.tn_io.specs.Faults.{Rose}
+use Rattle.tn_io.specs.FileLists.{Files}
+use Rattle.tn_io.specs.Stores.{Stored}
+use Rattle.tn_top.specs.declared.statuses.Status.{Status}
+use Rattle.tn_top.specs.declared.statuses.Status.TheVariants.{Done, Fault, Usage, Limit, ReadFault, WriteFault, OutFault, NoMemory, NotEnabled}
+use Rattle.tn_top.specs.FlatSource.{flat_of, code_of}
+use Rattle.tn_top.specs.Answers.{coded, coded_lines, within_limit, too_long, too_much, not_plain, code}
+use Rattle.tn_top.specs.Outcomes.{Told, Holds, HoldsPart}
+use Rattle.tn_top.specs.Sources.{IsCodeOf, IsRefusal, SourceEnds}
+
+-- a text that isn't too long, by its lines
+pub coded-text : (text : List ℕ) (lines : Option (List (Fun × ℤ))) → length text ≤ 1048576 → flat_of text ≡ lines → coded (Some text) ≡ coded_lines lines
+unfolding coded
+coded-text text lines short e = rw (le-ltb 1048576 (length text) short, e) refl
+
+-- code within the limit, and past it
+pub within_limit-code : (bytes : List ℕ) → length bytes ≤ 262144 → within_limit bytes ≡ code bytes
+within_limit-code bytes h = rw (le-ltb 262144 (length bytes) h) refl
+
+pub within_limit-too_much : (bytes : List ℕ) → 262144 < length bytes → within_limit bytes ≡ too_much (length bytes)
+within_limit-too_much bytes h = rw (lt-ltb 262144 (length bytes) h) refl
+
+-- a file that is too long, where it is told
+pub coded-too_long : (file : Option (Option (List ℕ))) → IfSome file (λ f. IsSomeAnd f (λ text. 1048576 < length text)) → IfSome file (λ f. (coded f ≡ too_long) ⊎ ((count : ℕ) × (coded f ≡ too_much count)))
+unfolding coded
+coded-too_long None h = tt
+coded-too_long (Some None) h = absurd h
+coded-too_long (Some (Some text)) h = inl (rw (lt-ltb 1048576 (length text) h) refl)
+
+module _ (source target : List ℕ) (made : List ℕ → List ℕ) (before read : Stored) (same : read ≡ record before { read_faults = read.read_faults }) where
+  same_files : read.files ≡ before.files
+  same_files = ap (λ s. s.files) same
+
+  -- a source that gave no code
+  pub ends-refused : (status : Status) → IsRefusal source before read status → SourceEnds source target made before read status
+  unfolding SourceEnds
+  ends-refused Done h = absurd h
+  ends-refused Fault h = (same_files, h)
+  ends-refused Usage h = absurd h
+  ends-refused Limit h = (same_files, h)
+  ends-refused ReadFault h = (same_files, h)
+  ends-refused WriteFault h = absurd h
+  ends-refused OutFault h = absurd h
+  ends-refused NoMemory h = inl same_files
+  ends-refused NotEnabled h = absurd h
+
+  module _ (after : Stored) (bytes : List ℕ) (is_code : IsCodeOf source before bytes) where
+    from_before : (P : Files → Files → Type 0) → Told read.files after.files P → Told before.files after.files P
+    from_before P t = subst (λ f. Told f after.files P) same_files t
+
+    -- code that was written
+    pub ends-done : after.opened ≡ None → Told read.files after.files (Holds target (made bytes)) → SourceEnds source target made before after Done
+    unfolding SourceEnds
+    ends-done closed t = (closed, (bytes, is_code, from_before (Holds target (made bytes)) t))
+
+    -- code that was not written
+    pub ends-unwritten : Rose read.write_faults after.write_faults → Told read.files after.files (HoldsPart target (made bytes)) → SourceEnds source target made before after WriteFault
+    unfolding SourceEnds
+    ends-unwritten rose t =
+        (subst (λ n. Rose n after.write_faults) (ap (λ s. s.write_faults) same) rose, (bytes, is_code, from_before (HoldsPart target (made bytes)) t))
+
+    -- code for which there was no memory to write it
+    pub ends-memory : Told read.files after.files (HoldsPart target (made bytes)) → SourceEnds source target made before after NoMemory
+    unfolding SourceEnds
+    ends-memory t = inr (bytes, is_code, from_before (HoldsPart target (made bytes)) t)
