@@ -1,2 +1,6 @@
 pub mod Puts
+pub mod Allowed
+pub mod Stored
+pub mod Bytes
+pub mod Frames
 pub mod Refusals

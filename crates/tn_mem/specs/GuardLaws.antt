@@ -52,7 +52,7 @@ same_guarded s bytes e =
       byte = λ a. kept a 1 (fetch bytes a) (fetch s.bytes a) (same.byte a);
       word = λ a. kept a 4 (load bytes a) (load s.bytes a) (same.word a);
       block = λ a n. kept a n (test_block bytes a n) (test_block s.bytes a n) (same.block a n);
-      source = λ a n. kept a n (test_block bytes a n) (test_block s.bytes a n) (same.source a n)
+      source = λ a n. kept a n (test_block bytes a n) (test_block s.bytes a n) (same.source a n);
     }
   where
     kept : {X : Type 0} (a n : ℕ) (new old : Result X Touch) → result_err new ≡ result_err old → result_err (unless_met (record s { bytes = bytes }) a n new) ≡ result_err (unless_met s a n old)
@@ -93,37 +93,37 @@ guarded_lawful =
     record {
       empty_block = λ s a. unless_met-apart s a 0 (test_block s.bytes a 0) (meets-empty s.from s.to a) ∙ plain_lawful.empty_block s.bytes a;
       part = λ s a n k j whole within.
-        let h = allowed-unless_met s a n (test_block s.bytes a n) tt whole in
-        unless_met-apart s (a + k) j (test_block s.bytes (a + k) j) (meets-part s.from s.to a n k j h.0 within) ∙ plain_lawful.part s.bytes a n k j h.1 within;
+          let h = allowed-unless_met s a n (test_block s.bytes a n) tt whole in
+          unless_met-apart s (a + k) j (test_block s.bytes (a + k) j) (meets-part s.from s.to a n k j h.0 within) ∙ plain_lawful.part s.bytes a n k j h.1 within;
       source_of_block = λ s a n h. h;
       byte_of_source = λ s a n k whole below.
-        let h = allowed-unless_met s a n (test_block s.bytes a n) tt whole in
-        ap is_ok (unless_met-apart s (a + k) 1 (fetch s.bytes (a + k)) (meets-part s.from s.to a n k 1 h.0 (omega arith))) ∙ plain_lawful.byte_of_source s.bytes a n k h.1 below;
+          let h = allowed-unless_met s a n (test_block s.bytes a n) tt whole in
+          ap is_ok (unless_met-apart s (a + k) 1 (fetch s.bytes (a + k)) (meets-part s.from s.to a n k 1 h.0 (omega arith))) ∙ plain_lawful.byte_of_source s.bytes a n k h.1 below;
       word_of_block = λ s a aligned whole.
-        let h = allowed-unless_met s a 4 (test_block s.bytes a 4) tt whole in
-        ap is_ok (unless_met-apart s a 4 (load s.bytes a) h.0) ∙ plain_lawful.word_of_block s.bytes a aligned h.1;
+          let h = allowed-unless_met s a 4 (test_block s.bytes a 4) tt whole in
+          ap is_ok (unless_met-apart s a 4 (load s.bytes a) h.0) ∙ plain_lawful.word_of_block s.bytes a aligned h.1;
       set_byte_as_block = λ s a v.
-        refusal-unless_met s a 1 (over s (store_byte s.bytes a v))
-        ∙ (ap (or_code (meets s.from s.to a 1)) (refusal-over s (store_byte s.bytes a v) ∙ plain_lawful.set_byte_as_block s.bytes a v)
-        ∙ sym (refusal-unless_met s a 1 (test_block s.bytes a 1)));
+          refusal-unless_met s a 1 (over s (store_byte s.bytes a v))
+          ∙ (ap (or_code (meets s.from s.to a 1)) (refusal-over s (store_byte s.bytes a v) ∙ plain_lawful.set_byte_as_block s.bytes a v)
+          ∙ sym (refusal-unless_met s a 1 (test_block s.bytes a 1)));
       set_word_as_block = λ s a v.
-        refusal-unless_met s a 4 (over s (store s.bytes a v))
-        ∙ (ap (or_code (meets s.from s.to a 4)) (refusal-over s (store s.bytes a v) ∙ plain_lawful.set_word_as_block s.bytes a v)
-        ∙ (aligned_first (meets s.from s.to a 4) (a % 4 == 0) (result_err (test_block s.bytes a 4))
-        ∙ ap (λ (e : Option Touch). if a % 4 == 0 then e else Some Outside) (sym (refusal-unless_met s a 4 (test_block s.bytes a 4)))));
+          refusal-unless_met s a 4 (over s (store s.bytes a v))
+          ∙ (ap (or_code (meets s.from s.to a 4)) (refusal-over s (store s.bytes a v) ∙ plain_lawful.set_word_as_block s.bytes a v)
+          ∙ (aligned_first (meets s.from s.to a 4) (a % 4 == 0) (result_err (test_block s.bytes a 4))
+          ∙ ap (λ (e : Option Touch). if a % 4 == 0 then e else Some Outside) (sym (refusal-unless_met s a 4 (test_block s.bytes a 4)))));
       copy_as_blocks = λ s from to n.
-        let r = over s (copied s.bytes from to n) in
-        let source = meets s.from s.to from n in
-        let target = meets s.from s.to to n in
-        let e = result_err (test_block s.bytes from n) in
-        let f = result_err (test_block s.bytes to n) in
-        refusal-unless_met s from n (unless_met s to n r)
-        ∙ (ap (or_code source) (refusal-unless_met s to n r ∙ ap (or_code target) (refusal-over s (copied s.bytes from to n) ∙ plain_lawful.copy_as_blocks s.bytes from to n))
-        ∙ (or_code-first_refusal source target e f
-        ∙ sym (ap (λ (x : Option Touch). first_refusal x (result_err (unless_met s to n (test_block s.bytes to n)))) (refusal-unless_met s from n (test_block s.bytes from n))
-        ∙ ap (λ (x : Option Touch). first_refusal (or_code source e) x) (refusal-unless_met s to n (test_block s.bytes to n)))));
+          let r = over s (copied s.bytes from to n) in
+          let source = meets s.from s.to from n in
+          let target = meets s.from s.to to n in
+          let e = result_err (test_block s.bytes from n) in
+          let f = result_err (test_block s.bytes to n) in
+          refusal-unless_met s from n (unless_met s to n r)
+          ∙ (ap (or_code source) (refusal-unless_met s to n r ∙ ap (or_code target) (refusal-over s (copied s.bytes from to n) ∙ plain_lawful.copy_as_blocks s.bytes from to n))
+          ∙ (or_code-first_refusal source target e f
+          ∙ sym (ap (λ (x : Option Touch). first_refusal x (result_err (unless_met s to n (test_block s.bytes to n)))) (refusal-unless_met s from n (test_block s.bytes from n))
+          ∙ ap (λ (x : Option Touch). first_refusal (or_code source e) x) (refusal-unless_met s to n (test_block s.bytes to n)))));
       set_byte_keeps = λ s t a v e. stored s t a 1 (store_byte s.bytes a v) (λ bytes h. length-store_byte s.bytes bytes a v h) e;
       set_word_keeps = λ s t a v e. stored s t a 4 (store s.bytes a v) (λ bytes h. length-store s.bytes bytes a v h) e;
       copy_keeps = λ s t from to count e.
-        stored s t to count (copied s.bytes from to count) (λ bytes h. length-copied s.bytes bytes from to count h) (allowed-unless_met s from count (unless_met s to count (over s (copied s.bytes from to count))) t e).1
+          stored s t to count (copied s.bytes from to count) (λ bytes h. length-copied s.bytes bytes from to count h) (allowed-unless_met s from count (unless_met s to count (over s (copied s.bytes from to count))) t e).1;
     }

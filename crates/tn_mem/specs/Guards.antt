@@ -35,5 +35,5 @@ guarded =
       set_word = λ s a v. unless_met s a 4 (over s (store s.bytes a v));
       block = λ s a n. unless_met s a n (test_block s.bytes a n);
       source = λ s a n. unless_met s a n (test_block s.bytes a n);
-      copy = λ s from to n. unless_met s from n (unless_met s to n (over s (copied s.bytes from to n)))
+      copy = λ s from to n. unless_met s from n (unless_met s to n (over s (copied s.bytes from to n)));
     }

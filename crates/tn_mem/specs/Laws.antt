@@ -57,7 +57,7 @@ same_by_length old new e =
       byte = λ a. rw e (refusal-answer_if (reachable (length old) a 1) (slice_index new (a - most_neg)) (slice_index old (a - most_neg)));
       word = λ a. rw e (refusal-answer_if (allows_word (length old) a) (from_le_bytes w32 (block new a 4)) (from_le_bytes w32 (block old a 4)));
       block = λ a n. rw e refl;
-      source = λ a n. rw e refl
+      source = λ a n. rw e refl;
     }
 
 -- a word that may not be loaded may not be stored either, and for the same reason
@@ -71,16 +71,16 @@ plain_lawful =
     record {
       empty_block = λ m a. refl;
       part = λ m a n k j whole within.
-        answer_if-allowed (allows_block (length m) (a + k) j) tt (allows_block-part (length m) a n k j (allowed-answer_if (allows_block (length m) a n) tt tt whole).0 within);
+          answer_if-allowed (allows_block (length m) (a + k) j) tt (allows_block-part (length m) a n k j (allowed-answer_if (allows_block (length m) a n) tt tt whole).0 within);
       source_of_block = λ m a n h. h;
       byte_of_source = λ m a n k whole below.
-        ap is_ok (answer_if-allowed (reachable (length m) (a + k) 1) (slice_index m (a + k - most_neg)) (allows_block-part (length m) a n k 1 (allowed-answer_if (allows_block (length m) a n) tt tt whole).0 (omega arith)));
+          ap is_ok (answer_if-allowed (reachable (length m) (a + k) 1) (slice_index m (a + k - most_neg)) (allows_block-part (length m) a n k 1 (allowed-answer_if (allows_block (length m) a n) tt tt whole).0 (omega arith)));
       word_of_block = λ m a aligned whole.
-        ap is_ok (answer_if-allowed (allows_word (length m) a) (from_le_bytes w32 (block m a 4)) (allows_word-reachable (length m) a aligned (allowed-answer_if (allows_block (length m) a 4) tt tt whole).0));
+          ap is_ok (answer_if-allowed (allows_word (length m) a) (from_le_bytes w32 (block m a 4)) (allows_word-reachable (length m) a aligned (allowed-answer_if (allows_block (length m) a 4) tt tt whole).0));
       set_byte_as_block = λ m a v. refusal-answer_if (reachable (length m) a 1) (put m a (v ∷ [])) tt;
       set_word_as_block = λ m a v. refusal-answer_if_aligned (a % 4 == 0) (reachable (length m) a 4) (put m a (to_le_bytes w32 v));
       copy_as_blocks = λ m from to n. refusal-answer_if_both (allows_block (length m) from n) (allows_block (length m) to n) (put m to (block m from n));
       set_byte_keeps = λ m n a v e. same_by_length m n (length-store_byte m n a v e);
       set_word_keeps = λ m n a v e. same_by_length m n (length-store m n a v e);
-      copy_keeps = λ m n from to count e. same_by_length m n (length-copied m n from to count e)
+      copy_keeps = λ m n from to count e. same_by_length m n (length-copied m n from to count e);
     }

@@ -39,17 +39,14 @@ pub record IsSpace {M : Type 0} (access : Access M) : Type 0 where
   -- a block of 0 bytes is allowed anywhere, and so is each part of a block that is allowed
   pub empty_block : (m : M) (a : ℕ) → access.block m a 0 ≡ Ok tt
   pub part : (m : M) (a n k j : ℕ) → access.block m a n ≡ Ok tt → k + j ≤ n → access.block m (a + k) j ≡ Ok tt
-
   -- what may be written may be read
   pub source_of_block : (m : M) (a n : ℕ) → access.block m a n ≡ Ok tt → access.source m a n ≡ Ok tt
   pub byte_of_source : (m : M) (a n k : ℕ) → access.source m a n ≡ Ok tt → k < n → IsOk (access.byte m (a + k))
   pub word_of_block : (m : M) (a : ℕ) → a % 4 ≡ 0 → access.block m a 4 ≡ Ok tt → IsOk (access.word m a)
-
   -- a store is refused as its block is, and an unaligned word is Outside
   pub set_byte_as_block : (m : M) (a v : ℕ) → result_err (access.set_byte m a v) ≡ result_err (access.block m a 1)
   pub set_word_as_block : (m : M) (a v : ℕ) → result_err (access.set_word m a v) ≡ (if a % 4 == 0 then result_err (access.block m a 4) else Some Outside)
   pub copy_as_blocks : (m : M) (from to n : ℕ) → result_err (access.copy m from to n) ≡ first_refusal (result_err (access.source m from n)) (result_err (access.block m to n))
-
   -- no call changes what is refused
   pub set_byte_keeps : (m n : M) (a v : ℕ) → access.set_byte m a v ≡ Ok n → SameExtents access m n
   pub set_word_keeps : (m n : M) (a v : ℕ) → access.set_word m a v ≡ Ok n → SameExtents access m n

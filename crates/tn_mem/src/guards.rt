@@ -4,11 +4,10 @@ ghost use Rattle.tn_mem.specs.Spaces.{first_refusal};
 ghost use Rattle.tn_mem.specs.Guards.{guarded, meets};
 ghost use Rattle.tn_mem.specs.GuardLaws.{guarded_lawful};
 
-use std::marker::Model;
-
 use crate::memories::Memory;
 use crate::spaces::Space;
 use crate::touches::Touch;
+use std::marker::Model;
 
 /// A memory in which no access may meet the region from one address up to, but not including,
 /// another. Such an access is refused as Code, unless the memory refuses it as Outside.
@@ -98,5 +97,9 @@ fn unmet(from: u32, to: u32, a: u32, n: u32) -> Result<(), Touch>
 {
     let first = u64::from(from.max(a));
     let end = u64::from(to).min(u64::from(a) + u64::from(n));
-    if first < end { Err(Touch::Code) } else { Ok(()) }
+    if first < end {
+        Err(Touch::Code)
+    } else {
+        Ok(())
+    }
 }

@@ -7,6 +7,8 @@
 mod guards;
 mod memories;
 mod spaces;
+#[cfg(test)]
+mod tests;
 mod touches;
 
 pub use guards::CodeFree;

@@ -3,10 +3,9 @@ ghost use Rattle.tn_mem.specs.Sizes.{IsMemorySize};
 ghost use Rattle.tn_mem.specs.Memories.{plain, reachable, allows_block, allows_word};
 ghost use Rattle.tn_mem.specs.Laws.{plain_lawful};
 
-use std::marker::Model;
-
 use crate::spaces::Space;
 use crate::touches::Touch;
+use std::marker::Model;
 
 /// The lowest address.
 const MOST_NEG: u32 = 0x8000_0000;
