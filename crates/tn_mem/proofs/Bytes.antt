@@ -1,10 +1,9 @@
 -- Memories of bytes: what is read of them is a byte or a word.
-use Rattle.std.proofs.Common.{◌≡◌, ℕ, ◌+◌, ◌-◌, ◌^◌, ◌<◌, ◌≤◌, List, [], ◌∷◌, length, take, drop, slice_index, Ok, arith}
-use Rattle.std.specs.Int.{w32, to_le_bytes, from_le_bytes}
+use Rattle.std.proofs.Common.{◌≡◌, ℕ, ◌+◌, ◌-◌, ◌^◌, ◌<◌, List, length, slice_index, Ok, arith}
+use Rattle.std.specs.Int.{w32, to_le_bytes}
 use Rattle.std.proofs.lemmas.List.{places, get_or_past}
-use Rattle.std.proofs.lemmas.Grind.{elements, pieces}
 use Rattle.tn_mem.specs.Memories.{most_neg, put, block, fetch, load}
-use Rattle.tn_mem.proofs.Puts.{IsInside, byte_at}
+use Rattle.tn_mem.proofs.Puts.{IsInside}
 use Rattle.tn_mem.proofs.Allowed.{allowed-fetch, allowed-load}
 
 -- each element is a byte

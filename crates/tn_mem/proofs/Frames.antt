@@ -2,7 +2,6 @@
 use Rattle.std.proofs.Common.{◌≡◌, ℕ, ◌+◌, ◌<◌, ◌≤◌, List, [], ◌∷◌, length, Bool, true, false, Ok, inl, inr, subst, refl, sym, ap, ◌∙◌, arith}
 use Rattle.std.specs.Int.{w32, to_le_bytes, from_le_bytes}
 use Rattle.tn_mem.specs.Memories.{most_neg, allows_word, answer_if, put, block, fetch, store_byte, load, store, copied}
-use Rattle.tn_mem.specs.Laws as laws
 use Rattle.tn_mem.proofs.Puts.{IsInside, byte_at, length-put, length-block, block-none, put-none, byte_at-put_below, byte_at-put_above, same_block}
 use Rattle.tn_mem.proofs.Allowed.{block_cases, inside-reachable, inside-word, allowed-store_byte, allowed-store, allowed-copied}
 

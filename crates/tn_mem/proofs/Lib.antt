@@ -4,3 +4,5 @@ pub mod Stored
 pub mod Bytes
 pub mod Frames
 pub mod Refusals
+pub mod SpaceLemmas
+pub mod Holding

@@ -1,6 +1,6 @@
 -- What a write leaves of a memory, and which blocks are read after it.
-use Rattle.std.proofs.Common.{add-zero, ◌≡◌, ℕ, ◌+◌, ◌-◌, ◌<◌, ◌≤◌, List, [], ◌∷◌, ◌++◌, length, take, drop, set, get_or, slice_index, refl, sym, ap, ◌∙◌, arith}
-use Rattle.std.proofs.lemmas.List.{places, ext_get_or, length-take, length-drop, length-append, drop-drop, take-append-drop, set_split}
+use Rattle.std.proofs.Common.{add-zero, ◌≡◌, ℕ, ◌+◌, ◌-◌, ◌<◌, ◌≤◌, List, [], ◌∷◌, ◌++◌, length, take, drop, set, slice_index, refl, sym, ◌∙◌, arith}
+use Rattle.std.proofs.lemmas.List.{places, ext_get_or, take-append-drop, set_split}
 use Rattle.tn_mem.specs.Memories.{most_neg, put, block}
 use Rattle.tn_mem.specs.Laws as laws
 

@@ -1,5 +1,5 @@
 -- What a refused store leaves.
-use Rattle.std.proofs.Common.{◌≡◌, Option, Some, Result, Ok, Err, sym, ap, refl}
+use Rattle.std.proofs.Common.{◌≡◌, Some, Result, Ok, Err, ap, refl}
 use Rattle.std.specs.Prelude.{⊤}
 use Rattle.std.specs.Result.{result_err}
 use Rattle.tn_mem.specs.declared.touches.Touch.{Touch}

@@ -1,8 +1,8 @@
 -- What is read of a memory after a write.
-use Rattle.std.proofs.Common.{add-zero, ◌≡◌, ℕ, ◌+◌, ◌%◌, ◌^◌, ◌<◌, ◌≤◌, List, [], ◌∷◌, length, take, drop, slice_index, true, Ok, Result, ap, sym, ◌∙◌, refl, arith}
+use Rattle.std.proofs.Common.{add-zero, ◌≡◌, ℕ, ◌+◌, ◌^◌, ◌<◌, ◌≤◌, List, [], ◌∷◌, length, take, drop, slice_index, true, Ok, ap, ◌∙◌, refl, arith}
 use Rattle.std.specs.Int.{w32, to_le_bytes, from_le_bytes}
 use Rattle.std.proofs.lemmas.Nat.{from_le_bytes-to_le_bytes_4}
-use Rattle.tn_mem.specs.Memories.{most_neg, reachable, allows_word, answer_if, put, block, fetch, store_byte, load, store}
+use Rattle.tn_mem.specs.Memories.{most_neg, reachable, allows_word, put, fetch, store_byte, load, store}
 use Rattle.tn_mem.proofs.Puts.{IsInside, byte_at, length-put, byte_at-put_below, byte_at-put_above, byte_at-put_inside, block-put, block-put_part, block-put_below, block-put_above}
 use Rattle.tn_mem.proofs.Allowed.{inside-reachable, inside-word, fetch-allowed, load-allowed, allowed-store_byte, allowed-store}
 

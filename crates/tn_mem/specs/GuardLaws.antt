@@ -1,11 +1,11 @@
 -- A guarded memory keeps the laws of spaces.
-use Rattle.std.specs.Prelude.{◌≡◌, ℕ, ◌+◌, ◌%◌, ◌≤◌, ◌<◌, ◌==◌, Bool, true, false, if◌then◌else◌, List, length, Option, Some, None, Result, Ok, Err, IsOk, is_ok, refl}
+use Rattle.std.specs.Prelude.{◌≡◌, ℕ, ◌+◌, ◌%◌, ◌==◌, Bool, true, false, if◌then◌else◌, List, length, Option, Some, None, Result, Ok, Err, is_ok, refl}
 use Rattle.std.proofs.Common.{sym, ap, ◌∙◌, subst, arith}
 use Rattle.std.specs.Result.{result_err}
 use Rattle.tn_mem.specs.declared.touches.Touch.{Touch}
 use Rattle.tn_mem.specs.declared.touches.Touch.TheVariants.{Outside, Code}
 use Rattle.tn_mem.specs.Spaces.{SameExtents, IsSpace, first_refusal}
-use Rattle.tn_mem.specs.Memories.{fetch, store_byte, load, store, test_block, copied, plain}
+use Rattle.tn_mem.specs.Memories.{fetch, store_byte, load, store, test_block, copied}
 use Rattle.tn_mem.specs.Guards.{Guarded, meets, unless_met, over, guarded}
 use Rattle.tn_mem.specs.Tests.{meets-part, meets-empty}
 use Rattle.tn_mem.specs.Laws.{plain_lawful, refusal-store, same_by_length, length-store_byte, length-store, length-copied}

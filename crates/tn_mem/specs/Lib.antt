@@ -5,3 +5,4 @@ pub mod Guards
 pub mod Tests
 pub mod Laws
 pub mod GuardLaws
+pub mod Holdings

@@ -1,10 +1,9 @@
 -- What the tests of accesses say, and what a refusal depends on.
-use Rattle.std.specs.Prelude.{◌≡◌, ℕ, ◌+◌, ◌-◌, ◌%◌, ◌<◌, ◌≤◌, ◌==◌, Bool, true, false, ◌&&◌, nat_lt, min, max, if◌then◌else◌, Option, Some, None, Result, Ok, Err, IsOk, refl}
+use Rattle.std.specs.Prelude.{◌≡◌, ℕ, ◌+◌, ◌-◌, ◌%◌, ◌≤◌, Bool, true, false, ◌&&◌, if◌then◌else◌, Some, Ok, refl}
 use Rattle.std.proofs.Common.{arith}
 use Rattle.std.specs.Result.{result_err}
 use Rattle.std.proofs.lemmas.Bool.Decides.{nat_tests}
-use Rattle.tn_mem.specs.declared.touches.Touch.{Touch}
-use Rattle.tn_mem.specs.declared.touches.Touch.TheVariants.{Outside, Code}
+use Rattle.tn_mem.specs.declared.touches.Touch.TheVariants.{Outside}
 use Rattle.tn_mem.specs.Spaces.{first_refusal}
 use Rattle.tn_mem.specs.Memories.{most_neg, reachable, allows_block, allows_word, answer_if}
 use Rattle.tn_mem.specs.Guards.{meets}
