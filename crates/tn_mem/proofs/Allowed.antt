@@ -2,7 +2,7 @@
 use Rattle.std.proofs.Common.{◌≡◌, ℕ, ◌+◌, ◌≤◌, List, [], ◌∷◌, length, true, ◌&&◌, Ok, ◌⊎◌, arith}
 use Rattle.std.specs.Int.{w32, to_le_bytes, from_le_bytes}
 use Rattle.std.proofs.lemmas.Bool.Decides.{nat_tests}
-use Rattle.tn_mem.specs.Memories.{most_neg, reachable, allows_block, allows_word, put, block, fetch, store_byte, load, store, test_block, copied}
+use Rattle.tn_mem.specs.Memories.{most_neg, reachable, allows_block, allows_word, put, block, fetch, store_byte, load, store, test_block, copy_block}
 use Rattle.tn_mem.specs.Tests.{fits-reachable, reachable-fits, reachable-allows_word, allowed-answer_if, answer_if-allowed}
 use Rattle.tn_mem.proofs.Puts.{IsInside, byte_at}
 
@@ -50,9 +50,9 @@ pub test_block-allowed : (m : List ℕ) (a n : ℕ) → allows_block (length m) 
 unfolding test_block
 test_block-allowed m a n test = answer_if-allowed (allows_block (length m) a n) tt test
 
-pub copied-allowed : (m : List ℕ) (from to n : ℕ) → allows_block (length m) from n ≡ true → allows_block (length m) to n ≡ true → copied m from to n ≡ Ok (put m to (block m from n))
-unfolding copied
-copied-allowed m from to n source target =
+pub copy_block-allowed : (m : List ℕ) (from to n : ℕ) → allows_block (length m) from n ≡ true → allows_block (length m) to n ≡ true → copy_block m from to n ≡ Ok (put m to (block m from n))
+unfolding copy_block
+copy_block-allowed m from to n source target =
     answer_if-allowed (allows_block (length m) from n && allows_block (length m) to n) (put m to (block m from n)) (rw (source, target))
 
 -- ---- what an answer tells
@@ -77,8 +77,8 @@ pub allowed-test_block : (m : List ℕ) (a n : ℕ) → test_block m a n ≡ Ok 
 unfolding test_block
 allowed-test_block m a n e = (allowed-answer_if (allows_block (length m) a n) tt tt e).0
 
-pub allowed-copied : (m n : List ℕ) (from to count : ℕ) → copied m from to count ≡ Ok n → (allows_block (length m) from count ≡ true) × (allows_block (length m) to count ≡ true) × (n ≡ put m to (block m from count))
-unfolding copied
-allowed-copied m n from to count e =
+pub allowed-copy_block : (m n : List ℕ) (from to count : ℕ) → copy_block m from to count ≡ Ok n → (allows_block (length m) from count ≡ true) × (allows_block (length m) to count ≡ true) × (n ≡ put m to (block m from count))
+unfolding copy_block
+allowed-copy_block m n from to count e =
     let h = allowed-answer_if (allows_block (length m) from count && allows_block (length m) to count) (put m to (block m from count)) n e in
     (grind (arith, nat_tests), grind (arith, nat_tests), h.1)

@@ -1,9 +1,9 @@
 -- Memories that differ in one region alone.
 use Rattle.std.proofs.Common.{◌≡◌, ℕ, ◌+◌, ◌<◌, ◌≤◌, List, [], ◌∷◌, length, Bool, true, false, Ok, inl, inr, subst, refl, sym, ap, ◌∙◌, arith}
 use Rattle.std.specs.Int.{w32, to_le_bytes, from_le_bytes}
-use Rattle.tn_mem.specs.Memories.{most_neg, allows_word, answer_if, put, block, fetch, store_byte, load, store, copied}
+use Rattle.tn_mem.specs.Memories.{most_neg, allows_word, answer_if, put, block, fetch, store_byte, load, store, copy_block}
 use Rattle.tn_mem.proofs.Puts.{IsInside, byte_at, length-put, length-block, block-none, put-none, byte_at-put_below, byte_at-put_above, same_block}
-use Rattle.tn_mem.proofs.Allowed.{block_cases, inside-reachable, inside-word, allowed-store_byte, allowed-store, allowed-copied}
+use Rattle.tn_mem.proofs.Allowed.{block_cases, inside-reachable, inside-word, allowed-store_byte, allowed-store, allowed-copy_block}
 
 -- n is m but for the bytes from one address up to, but not including, another
 pub record Changed (m n : List ℕ) (from to : ℕ) : Type 0 where
@@ -54,9 +54,9 @@ pub changed-store : (m n : List ℕ) (a v : ℕ) → store m a v ≡ Ok n → Ch
 changed-store m n a v e =
     let h = allowed-store m n a v e in rw h.1 (changed-put m a (to_le_bytes w32 v) (inside-word m a h.0))
 
-pub changed-copied : (m n : List ℕ) (from to count : ℕ) → copied m from to count ≡ Ok n → Changed m n to (to + count)
-changed-copied m n from to count e =
-    let h = allowed-copied m n from to count e in
+pub changed-copy_block : (m n : List ℕ) (from to count : ℕ) → copy_block m from to count ≡ Ok n → Changed m n to (to + count)
+changed-copy_block m n from to count e =
+    let h = allowed-copy_block m n from to count e in
     elim (block_cases (length m) from count h.0) [
       | inl none ↦ rw (h.2, none, block-none m from, put-none m to) (changed-none m to (to + 0))
       | inr source ↦ elim (block_cases (length m) to count h.1) [

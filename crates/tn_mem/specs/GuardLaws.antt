@@ -5,10 +5,10 @@ use Rattle.std.specs.Result.{result_err}
 use Rattle.tn_mem.specs.declared.touches.Touch.{Touch}
 use Rattle.tn_mem.specs.declared.touches.Touch.TheVariants.{Outside, Code}
 use Rattle.tn_mem.specs.Spaces.{SameExtents, IsSpace, first_refusal}
-use Rattle.tn_mem.specs.Memories.{fetch, store_byte, load, store, test_block, copied}
+use Rattle.tn_mem.specs.Memories.{fetch, store_byte, load, store, test_block, copy_block}
 use Rattle.tn_mem.specs.Guards.{Guarded, meets, unless_met, over, guarded}
 use Rattle.tn_mem.specs.Tests.{meets-part, meets-empty}
-use Rattle.tn_mem.specs.Laws.{plain_lawful, refusal-store, same_by_length, length-store_byte, length-store, length-copied}
+use Rattle.tn_mem.specs.Laws.{plain_lawful, refusal-store, same_by_length, length-store_byte, length-store, length-copy_block}
 
 -- a refusal of the memory, or else Code where the access meets the region
 abbrev or_code : Bool → Option Touch → Option Touch
@@ -112,18 +112,18 @@ guarded_lawful =
           ∙ (aligned_first (meets s.from s.to a 4) (a % 4 == 0) (result_err (test_block s.bytes a 4))
           ∙ ap (λ (e : Option Touch). if a % 4 == 0 then e else Some Outside) (sym (refusal-unless_met s a 4 (test_block s.bytes a 4)))));
       copy_as_blocks = λ s from to n.
-          let r = over s (copied s.bytes from to n) in
+          let r = over s (copy_block s.bytes from to n) in
           let source = meets s.from s.to from n in
           let target = meets s.from s.to to n in
           let e = result_err (test_block s.bytes from n) in
           let f = result_err (test_block s.bytes to n) in
           refusal-unless_met s from n (unless_met s to n r)
-          ∙ (ap (or_code source) (refusal-unless_met s to n r ∙ ap (or_code target) (refusal-over s (copied s.bytes from to n) ∙ plain_lawful.copy_as_blocks s.bytes from to n))
+          ∙ (ap (or_code source) (refusal-unless_met s to n r ∙ ap (or_code target) (refusal-over s (copy_block s.bytes from to n) ∙ plain_lawful.copy_as_blocks s.bytes from to n))
           ∙ (or_code-first_refusal source target e f
           ∙ sym (ap (λ (x : Option Touch). first_refusal x (result_err (unless_met s to n (test_block s.bytes to n)))) (refusal-unless_met s from n (test_block s.bytes from n))
           ∙ ap (λ (x : Option Touch). first_refusal (or_code source e) x) (refusal-unless_met s to n (test_block s.bytes to n)))));
       set_byte_keeps = λ s t a v e. stored s t a 1 (store_byte s.bytes a v) (λ bytes h. length-store_byte s.bytes bytes a v h) e;
       set_word_keeps = λ s t a v e. stored s t a 4 (store s.bytes a v) (λ bytes h. length-store s.bytes bytes a v h) e;
       copy_keeps = λ s t from to count e.
-          stored s t to count (copied s.bytes from to count) (λ bytes h. length-copied s.bytes bytes from to count h) (allowed-unless_met s from count (unless_met s to count (over s (copied s.bytes from to count))) t e).1;
+          stored s t to count (copy_block s.bytes from to count) (λ bytes h. length-copy_block s.bytes bytes from to count h) (allowed-unless_met s from count (unless_met s to count (over s (copy_block s.bytes from to count))) t e).1;
     }

@@ -3,7 +3,7 @@ use Rattle.std.specs.Prelude.{ℕ, ◌+◌, Bool, nat_lt, min, max, if◌then◌
 use Rattle.tn_mem.specs.declared.touches.Touch.{Touch}
 use Rattle.tn_mem.specs.declared.touches.Touch.TheVariants.{Code}
 use Rattle.tn_mem.specs.Spaces.{Access}
-use Rattle.tn_mem.specs.Memories.{fetch, store_byte, load, store, test_block, copied}
+use Rattle.tn_mem.specs.Memories.{fetch, store_byte, load, store, test_block, copy_block}
 
 -- the bytes of a memory, and the region from one address up to, but not including, another
 pub record Guarded : Type 0 where
@@ -35,5 +35,5 @@ guarded =
       set_word = λ s a v. unless_met s a 4 (over s (store s.bytes a v));
       block = λ s a n. unless_met s a n (test_block s.bytes a n);
       source = λ s a n. unless_met s a n (test_block s.bytes a n);
-      copy = λ s from to n. unless_met s from n (unless_met s to n (over s (copied s.bytes from to n)));
+      copy = λ s from to n. unless_met s from n (unless_met s to n (over s (copy_block s.bytes from to n)));
     }

@@ -7,7 +7,7 @@ use Rattle.std.proofs.lemmas.List.{places}
 use Rattle.std.proofs.lemmas.Bool.Decides.{nat_tests}
 use Rattle.std.proofs.Common.{arith}
 use Rattle.tn_mem.specs.Spaces.{SameExtents, IsSpace}
-use Rattle.tn_mem.specs.Memories.{most_neg, reachable, allows_block, allows_word, put, block, fetch, store_byte, load, store, test_block, copied, plain}
+use Rattle.tn_mem.specs.Memories.{most_neg, reachable, allows_block, allows_word, put, block, fetch, store_byte, load, store, test_block, copy_block, plain}
 use Rattle.tn_mem.specs.Tests.{fits-reachable, reachable-allows_word, allows_word-reachable, allows_block-part, allowed-answer_if, answer_if-allowed, refusal-answer_if, refusal-answer_if_aligned, refusal-answer_if_both}
 
 -- a write inside a memory keeps its length
@@ -42,9 +42,9 @@ both_true : (a b : Bool) → a && b ≡ true → (a ≡ true) × (b ≡ true)
 both_true true b e = (refl, e)
 both_true false b e = cc
 
-pub length-copied : (m n : List ℕ) (from to count : ℕ) → copied m from to count ≡ Ok n → length n ≡ length m
-unfolding copied
-length-copied m n from to count e =
+pub length-copy_block : (m n : List ℕ) (from to count : ℕ) → copy_block m from to count ≡ Ok n → length n ≡ length m
+unfolding copy_block
+length-copy_block m n from to count e =
     let h = allowed-answer_if (allows_block (length m) from count && allows_block (length m) to count) (put m to (block m from count)) n e in
     let both = both_true (allows_block (length m) from count) (allows_block (length m) to count) h.0 in
     ap length h.1 ∙ length-put_block m from to count both.0 both.1
@@ -66,7 +66,7 @@ unfolding load store
 refusal-store m a v = refusal-answer_if (allows_word (length m) a) (put m a (to_le_bytes w32 v)) (from_le_bytes w32 (block m a 4))
 
 pub plain_lawful : IsSpace plain
-unfolding fetch store_byte load store test_block copied
+unfolding fetch store_byte load store test_block copy_block
 plain_lawful =
     record {
       empty_block = λ m a. refl;
@@ -82,5 +82,5 @@ plain_lawful =
       copy_as_blocks = λ m from to n. refusal-answer_if_both (allows_block (length m) from n) (allows_block (length m) to n) (put m to (block m from n));
       set_byte_keeps = λ m n a v e. same_by_length m n (length-store_byte m n a v e);
       set_word_keeps = λ m n a v e. same_by_length m n (length-store m n a v e);
-      copy_keeps = λ m n from to count e. same_by_length m n (length-copied m n from to count e);
+      copy_keeps = λ m n from to count e. same_by_length m n (length-copy_block m n from to count e);
     }

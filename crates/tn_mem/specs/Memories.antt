@@ -54,10 +54,10 @@ unfoldable pub test_block : List ℕ → ℕ → ℕ → Result ⊤ Touch
 test_block m a n = answer_if (allows_block (length m) a n) tt
 
 -- the memory after n bytes are copied, as if all were read first
-unfoldable pub copied : List ℕ → ℕ → ℕ → ℕ → Result (List ℕ) Touch
-copied m from to n =
+unfoldable pub copy_block : List ℕ → ℕ → ℕ → ℕ → Result (List ℕ) Touch
+copy_block m from to n =
     answer_if (allows_block (length m) from n && allows_block (length m) to n) (put m to (block m from n))
 
 -- what each access of a memory answers
 abbrev pub plain : Access (List ℕ)
-plain = record { byte = fetch; set_byte = store_byte; word = load; set_word = store; block = test_block; source = test_block; copy = copied }
+plain = record { byte = fetch; set_byte = store_byte; word = load; set_word = store; block = test_block; source = test_block; copy = copy_block }

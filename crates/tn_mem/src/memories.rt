@@ -126,7 +126,7 @@ impl Space for Memory {
         }
     }
 
-    #[tactic(auto, unfolding(crate::specs::Memories::copied, crate::specs::Memories::put, crate::specs::Memories::block))]
+    #[tactic(auto, unfolding(crate::specs::Memories::copy_block, crate::specs::Memories::put, crate::specs::Memories::block))]
     fn copy(&mut self, from: u32, to: u32, n: u32) -> Result<(), Touch> {
         let size = self.bytes.len();
         if !is_block(size, from, n) || !is_block(size, to, n) {
