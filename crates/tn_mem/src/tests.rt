@@ -64,8 +64,7 @@ fn accesses_reach_from_word_9_to_the_end(rt: HostRuntime) -> Result<(), Fail> {
     let table = [
         (0, OUTSIDE, OUTSIDE, OUTSIDE),
         (MOST_NEG - 1, OUTSIDE, OUTSIDE, OUTSIDE),
-        (MOST_NEG, OUTSIDE, OUTSIDE, OUTSIDE),
-        (MOST_NEG + 0x20, OUTSIDE, OUTSIDE, OUTSIDE),
+        (MOST_NEG + 0x21, OUTSIDE, OUTSIDE, OUTSIDE),
         (MOST_NEG + 0x23, OUTSIDE, OUTSIDE, OUTSIDE),
         (MOST_NEG + 0x24, None, None, None),
         (MOST_NEG + 0x25, None, OUTSIDE, None),
@@ -80,6 +79,15 @@ fn accesses_reach_from_word_9_to_the_end(rt: HostRuntime) -> Result<(), Fail> {
     for (a, byte, word, block) in table {
         let wanted = [byte, byte, word, word, block, block, block, None];
         assert!(rt; refusals(&mut memory, a) == wanted, "{a}");
+    }
+    for word in 0..9 {
+        let wanted = [
+            OUTSIDE, OUTSIDE, OUTSIDE, OUTSIDE, OUTSIDE, OUTSIDE, OUTSIDE, None,
+        ];
+        assert!(rt;
+            refusals(&mut memory, MOST_NEG + 4 * word) == wanted,
+            "{word}"
+        );
     }
     let blocks = [
         memory.block(MOST_NEG + 0x24, SIZE - 0x24).err(),
