@@ -1,2 +1,3 @@
 pub mod FileListLaws
 pub mod FilePlaces
+pub mod OpenFiles

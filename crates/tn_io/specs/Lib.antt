@@ -5,3 +5,5 @@ pub mod Outs
 pub mod MemStores
 pub mod SafeStores
 pub mod MemOuts
+pub mod FileOuts
+pub mod FileOutLaws

@@ -1,4 +1,4 @@
-ghost use Rattle.std.specs.Prelude.{◌≤◌};
+ghost use Rattle.std.specs.Prelude.{◌≡◌, ◌+◌, ◌-◌, ◌^◌, ◌≤◌, min};
 ghost use Rattle.tn_io.specs.Faults.{Rose};
 
 use thiserror::Error;
@@ -26,6 +26,15 @@ pub enum PutFault {
     NoMemory,
 }
 
+/// Which refusal of a store came last to an output over its open file.
+#[derive(Clone, Copy, Debug, PartialEq, Eq)]
+pub enum PutKind {
+    /// No file was open, or the device failed.
+    Failed,
+    /// There was no memory.
+    NoMemory,
+}
+
 /// An output did not take all of a piece.
 #[derive(Clone, Copy, Debug, PartialEq, Eq, Error)]
 #[error("the output cannot be written")]
@@ -35,6 +44,7 @@ pub struct OutFault;
 pub fn count_fault(faults: &mut u64)
     ensures rose { Rose faults.old faults.new }
     ensures no_less { faults.old ≤ faults.new }
+    ensures counted { faults.new ≡ min (faults.old + 1) (2 ^ 64 - 1) }
 {
     *faults = faults.saturating_add(1);
 }

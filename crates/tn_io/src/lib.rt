@@ -6,6 +6,7 @@
 #![tactic(auto)]
 
 mod faults;
+mod file_outs;
 mod file_text;
 mod host_out;
 mod host_store;
@@ -16,7 +17,8 @@ mod outs;
 mod safe_store;
 mod stores;
 
-pub use faults::{GetFault, OutFault, PutFault};
+pub use faults::{GetFault, OutFault, PutFault, PutKind};
+pub use file_outs::FileOut;
 pub use file_text::FileText;
 pub use host_out::HostOut;
 pub use host_store::HostStore;
