@@ -1,0 +1,36 @@
+-- Images of processors, as contracts see them.
+use Rattle.std.specs.Prelude.{ℕ, ◌^◌, ◌<◌, ◌≤◌, List, length, map, All}
+use Rattle.tn_stream.specs.declared.images.Segment.{Segment}
+use Rattle.tn_stream.specs.declared.images.Image.{Image}
+
+-- bytes and the address of the first
+pub record SegmentBytes : Type 0 where
+  pub base : ℕ
+  pub bytes : List ℕ
+
+-- the segments of an image, the address of its first instruction, and its workspace pointer
+pub record ImageBytes : Type 0 where
+  pub segments : List SegmentBytes
+  pub entry : ℕ
+  pub wptr : ℕ
+
+-- what contracts see of a segment
+abbrev pub segment_of : Segment → SegmentBytes
+segment_of s = record { base = s.base; bytes = s.bytes.items }
+
+-- what contracts see of segments
+abbrev pub segments_of : List Segment → List SegmentBytes
+segments_of segments = map segment_of segments
+
+-- what contracts see of an image
+abbrev pub image_of : Image → ImageBytes
+image_of i = record { segments = segments_of i.segments.items; entry = i.entry; wptr = i.wptr }
+
+-- a segment that a LOAD can carry: not empty, and of at most a megabyte
+pub record IsLoadable (s : SegmentBytes) : Type 0 where
+  pub some : 0 < length s.bytes
+  pub bounded : length s.bytes ≤ 2 ^ 20
+
+-- every segment can be carried
+abbrev pub AreLoadable : List SegmentBytes → Type 0
+AreLoadable segments = All IsLoadable segments

@@ -1,0 +1,4 @@
+pub mod Images
+pub mod Trees
+pub mod Streams
+pub mod Emissions
