@@ -1,16 +1,17 @@
 -- What follows of a command from how it ends.
-use Rattle.std.proofs.Common.{◌≡◌, ◌≢◌, ℕ, ◌⊎◌, inl, inr, not, Bool, true, false, cond, List, [], ◌∷◌, filter, codes, Option, Some, None, IfSome, IsSomeAnd, refl, sym, ap, ◌∙◌, subst}
+use Rattle.std.proofs.Common.{◌≡◌, ◌≢◌, ℕ, ◌⊎◌, inl, inr, not, Bool, true, false, cond, List, [], ◌∷◌, codes, Option, Some, None, IfSome, IsSomeAnd, refl, sym, ap, ◌∙◌, subst}
 use Rattle.std.specs.Str.{bytes_eq}
 use Rattle.tn_io.specs.Faults.{Rose}
 use Rattle.tn_io.specs.FileLists.{Files, held}
 use Rattle.tn_io.specs.Stores.{Stored, told}
 use Rattle.tn_top.specs.declared.statuses.Status.{Status}
 use Rattle.tn_top.specs.declared.statuses.Status.TheVariants.{Done, Fault, Usage, Limit, ReadFault, WriteFault, OutFault, NoMemory, NotEnabled}
-use Rattle.tn_top.specs.Words.{Asked, asked, flat}
+use Rattle.tn_top.specs.Words.{Asked, asked, flat, one}
+use Rattle.tn_top.specs.OneProcessor.{boot_stream}
 use Rattle.tn_top.specs.Answers.{Answer, usage, unread, fault, limit, done, Coded, coded, missing, too_long, too_much, not_plain, code, source_answer, answer_to, answer, status_of}
-use Rattle.tn_top.specs.Outcomes.{Told, IfTold, SameFiles, Holds, HoldsPart, without, IsDone, CannotRead, Cause, NothingFailed, FilesAfter}
-use Rattle.tn_top.specs.Sources.{IsCodeOf, IsRefusal, SourceEnds, Ends}
-use Rattle.tn_top.proofs.Puts.{told-weaker, told-same, part-same}
+use Rattle.tn_top.specs.Outcomes.{Told, IfTold, Holds, HoldsPart, without, IsDone, CannotRead, Cause, NothingFailed, FilesAfter}
+use Rattle.tn_top.specs.Sources.{SourceEnds, Ends}
+use Rattle.tn_top.proofs.Puts.{told-weaker, part-same}
 
 -- a name holds nothing once its files are left out
 pub held-without : (files : Files) (name : List ℕ) → held (without files name) name ≡ None
@@ -189,9 +190,11 @@ module _ (words : List (List ℕ)) (before after : Stored) (status : Status) whe
 
   pub ends_cause : (what : Asked) → Some what ≡ asked words → Ends what before after status → Cause words before after status
   ends_cause (flat source target) asks h = source_cause words source target (λ bytes. bytes) (by_asked (Some (flat source target)) asks) before after status h
+  ends_cause (one source target link) asks h = source_cause words source target (boot_stream link) (by_asked (Some (one source target link)) asks) before after status h
 
   says : (what : Asked) → Some what ≡ asked words → Ends what before after status → (Rose before.read_faults after.read_faults → ⊥) → IfTold before.files (λ fs. Says (answer words fs) before after status)
   says (flat source target) asks h calm = source_says words source target (λ bytes. bytes) (by_asked (Some (flat source target)) asks) before after status h calm
+  says (one source target link) asks h calm = source_says words source target (boot_stream link) (by_asked (Some (one source target link)) asks) before after status h calm
 
   told_more : {P Q : Files → Type 0} (files : Option Files) → ((fs : Files) → P fs → Q fs) → IfTold files P → IfTold files Q
   told_more None f h = tt
@@ -208,6 +211,8 @@ module _ (words : List (List ℕ)) (before after : Stored) (status : Status) whe
 
   pub ends_files : (what : Asked) → Some what ≡ asked words → Ends what before after status → IfTold before.files (λ fs. Told before.files after.files (FilesAfter (answer words fs) status))
   ends_files (flat source target) asks h = source_files words source target (λ bytes. bytes) (by_asked (Some (flat source target)) asks) before after status h
+  ends_files (one source target link) asks h = source_files words source target (boot_stream link) (by_asked (Some (one source target link)) asks) before after status h
 
   pub ends_closed : (what : Asked) → Ends what before after status → status ≡ Done → after.opened ≡ None
   ends_closed (flat source target) h e = source_closed source target (λ bytes. bytes) before after status h e
+  ends_closed (one source target link) h e = source_closed source target (boot_stream link) before after status h e

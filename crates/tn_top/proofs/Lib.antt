@@ -3,3 +3,4 @@ pub mod Numbers
 pub mod FlatLines
 pub mod SourceSteps
 pub mod Causes
+pub mod Emitted

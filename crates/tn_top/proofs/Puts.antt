@@ -1,10 +1,23 @@
 -- A file that is made, written and closed, by what each name holds.
-use Rattle.std.proofs.Common.{◌≡◌, ◌≢◌, ℕ, List, [], ◌++◌, length, take, ◌⊎◌, inl, inr, Option, Some, None, unwrap_or, refl, sym, ap, ◌∙◌, subst}
+use Rattle.std.proofs.Common.{◌≡◌, ℕ, List, [], ◌++◌, length, take, ◌⊎◌, inl, inr, Option, Some, None, unwrap_or, Result, Ok, Err, OnOk, OnErr, refl, sym, ap, ◌∙◌, subst}
 use Rattle.std.proofs.Math.Seq.{take-length}
 use Rattle.tn_io.specs.FileLists.{Files, held, with_file, with_more, with_front}
 use Rattle.tn_io.specs.Stores.{told_with, told_more, told_front}
 use Rattle.tn_io.proofs.FileListLaws.{held-with_file, held-with_file-other}
-use Rattle.tn_top.specs.Outcomes.{Told, SameFiles, SameOthers, Holds, HoldsPart}
+use Rattle.tn_top.specs.Outcomes.{Told, SameFiles, Holds, HoldsPart}
+
+-- facts of a result
+pub on_err_always : {T E P : Type 0} (r : Result T E) → P → OnErr r P
+on_err_always (Ok x) p = tt
+on_err_always (Err e) p = p
+
+pub on_ok_more : {T E P Q : Type 0} (r : Result T E) → OnOk r P → (P → Q) → OnOk r Q
+on_ok_more (Ok x) p f = f p
+on_ok_more (Err e) p f = tt
+
+pub on_err_more : {T E P Q : Type 0} (r : Result T E) → OnErr r P → (P → Q) → OnErr r Q
+on_err_more (Ok x) p f = tt
+on_err_more (Err e) p f = f p
 
 -- what follows from a relation between told files follows where they are told
 pub told-weaker : {P Q : Files → Files → Type 0} (before after : Option Files) → ((fs gs : Files) → P fs gs → Q fs gs) → Told before after P → Told before after Q
@@ -62,6 +75,10 @@ front-told name bytes k (Some fs) (Some gs) t = front name bytes k fs gs t
 
 part-told : (name bytes : List ℕ) (k : ℕ) (before after : Option Files) → Told before after (Holds name (take k bytes)) → Told before after (HoldsPart name bytes)
 part-told name bytes k before after t = told-weaker before after (part name bytes k) t
+
+-- a file that was made is empty
+pub made-empty : (name : List ℕ) (before after : Option Files) → after ≡ told_with name [] before → Told before after (Holds name [])
+made-empty name before after e = subst (λ f. Told before f (Holds name [])) (sym e) (made-told name before)
 
 -- after a refused create
 pub refused-create : (name bytes : List ℕ) (before after : Option Files) → (after ≡ before) ⊎ (after ≡ told_with name [] before) → Told before after (HoldsPart name bytes)

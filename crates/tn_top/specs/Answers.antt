@@ -3,7 +3,8 @@ use Rattle.std.specs.Prelude.{ℕ, ℤ, nat_lt, length, List, [], Option, Some, 
 use Rattle.tn_isa.specs.declared.functions.Fun.{Fun}
 use Rattle.tn_io.specs.FileLists.{Files, held}
 use Rattle.tn_top.specs.FlatSource.{flat_of, code_of}
-use Rattle.tn_top.specs.Words.{Asked, flat, asked}
+use Rattle.tn_top.specs.Words.{Asked, flat, one, asked}
+use Rattle.tn_top.specs.OneProcessor.{boot_stream}
 use Rattle.tn_top.specs.declared.statuses.Status.{Status}
 use Rattle.tn_top.specs.declared.statuses.Status.TheVariants as status
 
@@ -52,6 +53,7 @@ source_answer source target made (code bytes) = done (Some (target, made bytes))
 abbrev pub answer_to : Option Asked → Files → Answer
 answer_to None files = usage
 answer_to (Some (flat source target)) files = source_answer source target (λ bytes. bytes) (coded (held files source))
+answer_to (Some (one source target link)) files = source_answer source target (boot_stream link) (coded (held files source))
 
 -- the answer to words
 abbrev pub answer : List (List ℕ) → Files → Answer

@@ -1,5 +1,5 @@
 -- How a command ends, and what it leaves.
-use Rattle.std.specs.Prelude.{◌≡◌, ◌≢◌, ⊤, ℕ, ◌⊎◌, not, List, filter, take, Option, Some, None, IfSome, IsSomeAnd}
+use Rattle.std.specs.Prelude.{◌≡◌, ◌≢◌, ⊤, ℕ, ◌⊎◌, not, List, [], ◌++◌, filter, take, Option, Some, None, unwrap_or, IfSome, IsSomeAnd}
 use Rattle.std.specs.Str.{bytes_eq}
 use Rattle.tn_io.specs.Faults.{Rose}
 use Rattle.tn_io.specs.FileLists.{Files, held}
@@ -7,7 +7,7 @@ use Rattle.tn_io.specs.Stores.{Stored}
 use Rattle.tn_top.specs.declared.statuses.Status.{Status}
 use Rattle.tn_top.specs.declared.statuses.Status.TheVariants.{Done, Fault, Usage, Limit, ReadFault, WriteFault, OutFault, NoMemory, NotEnabled}
 use Rattle.tn_top.specs.Words.{asked}
-use Rattle.tn_top.specs.Answers.{Answer, usage, unread, fault, limit, done, answer}
+use Rattle.tn_top.specs.Answers.{Answer, unread, fault, limit, done, answer}
 
 -- a relation between told files; nothing is said of files that are told neither before nor after
 abbrev pub Told : Option Files → Option Files → (Files → Files → Type 0) → Type 0
@@ -75,3 +75,12 @@ FilesAfter (done (Some file) printed) Done before after = Holds file.0 file.1 be
 FilesAfter (done (Some file) printed) WriteFault before after = HoldsPart file.0 file.1 before after
 FilesAfter (done (Some file) printed) NoMemory before after = HoldsPart file.0 file.1 before after
 FilesAfter _ status before after = SameFiles before after
+
+-- the file has the bytes behind what it held, and each other name holds what it held
+pub record Grows (target piece : List ℕ) (before after : Files) : Type 0 where
+  pub grown : held after target ≡ Some (unwrap_or (held before target) [] ++ piece)
+  pub others : SameOthers target before after
+
+-- the file has a prefix of the bytes behind what it held
+abbrev pub GrowsPart : List ℕ → List ℕ → Files → Files → Type 0
+GrowsPart target piece before after = (k : ℕ) × Grows target (take k piece) before after

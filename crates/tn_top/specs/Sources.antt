@@ -1,11 +1,11 @@
 -- How a command that makes something of a flat source's code ends.
 use Rattle.std.specs.Prelude.{◌≡◌, ⊤, ◌⊎◌, ℕ, List, Some, None, IfSome}
 use Rattle.tn_io.specs.Faults.{Rose}
-use Rattle.tn_io.specs.FileLists.{Files}
 use Rattle.tn_io.specs.Stores.{Stored, told}
 use Rattle.tn_top.specs.declared.statuses.Status.{Status}
-use Rattle.tn_top.specs.declared.statuses.Status.TheVariants.{Done, Fault, Usage, Limit, ReadFault, WriteFault, OutFault, NoMemory, NotEnabled}
-use Rattle.tn_top.specs.Words.{Asked, flat}
+use Rattle.tn_top.specs.declared.statuses.Status.TheVariants.{Done, Fault, Limit, ReadFault, WriteFault, NoMemory}
+use Rattle.tn_top.specs.Words.{Asked, flat, one}
+use Rattle.tn_top.specs.OneProcessor.{boot_stream}
 use Rattle.tn_top.specs.Answers.{coded, too_long, too_much, not_plain, code}
 use Rattle.tn_top.specs.Outcomes.{Told, Holds, HoldsPart}
 
@@ -41,3 +41,4 @@ SourceEnds source target made before after status = (after.files ≡ before.file
 -- how a command ends, by what it was asked
 abbrev pub Ends : Asked → Stored → Stored → Status → Type 0
 Ends (flat source target) before after status = SourceEnds source target (λ bytes. bytes) before after status
+Ends (one source target link) before after status = SourceEnds source target (boot_stream link) before after status

@@ -1,27 +1,47 @@
 -- The words of a command line.
-use Rattle.std.specs.Prelude.{ℕ, ◌≤◌, Bool, true, false, not, ◌&&◌, ◌==◌, nat_le, List, [], ◌∷◌, length, Option, Some, None, codes, if◌then◌else◌}
+use Rattle.std.specs.Prelude.{ℕ, ◌-◌, ◌<◌, ◌≤◌, Bool, false, not, ◌&&◌, ◌==◌, nat_le, List, [], ◌∷◌, length, Option, Some, None, codes, if◌then◌else◌}
+use Rattle.std.specs.Option.{option_map}
 use Rattle.std.specs.Str.{bytes_eq}
 use Rattle.tn_top.specs.declared.words.Command.{Command}
-use Rattle.tn_top.specs.declared.words.Command.TheVariants.{Flat}
+use Rattle.tn_top.specs.declared.words.Command.TheVariants.{Flat, One}
 
--- what words ask for: code from a flat source
+-- what words ask for: the code of a flat source, or the stream that boots one processor by a link
 pub data Asked : Type 0 where
   flat : (source target : List ℕ) → Asked
+  one : (source target : List ℕ) (link : ℕ) → Asked
 
 -- what a command asks for
 abbrev pub seen : Command → Asked
 seen (Flat source target) = flat source.now target.now
+seen (One source target link) = one source.now target.now link
 
 -- a word that may name a file: it has 1 to 255 bytes, and doesn't begin with a minus sign
 abbrev pub is_file_word : List ℕ → Bool
 is_file_word [] = false
 is_file_word (c ∷ cs) = not (c == 45) && nat_le (length (c ∷ cs)) 255
 
--- the command that the words after the program's name spell
+-- the link that a word names, 0 to 3
+unfoldable pub link_named : List ℕ → Option ℕ
+link_named (c ∷ []) = if nat_le 48 c && nat_le c 51 then Some (c - 48) else None
+link_named _ = None
+
+-- what three words ask for
+abbrev pub flat_asked : List ℕ → List ℕ → List ℕ → Option Asked
+flat_asked command source target =
+    if bytes_eq command (codes "flat") && (is_file_word source && is_file_word target) then Some (flat source target) else None
+
+-- what four words ask for
+abbrev pub one_asked : List ℕ → List ℕ → List ℕ → List ℕ → Option Asked
+one_asked command source target link =
+    if bytes_eq command (codes "one") && (is_file_word source && is_file_word target) then option_map (λ k. one source target k) (link_named link) else None
+
+-- what the words after the program's name ask for, if they spell a command
 unfoldable pub asked : List (List ℕ) → Option Asked
-asked (command ∷ source ∷ target ∷ []) = if bytes_eq command (codes "flat") && (is_file_word source && is_file_word target) then Some (flat source target) else None
+asked (command ∷ source ∷ target ∷ []) = flat_asked command source target
+asked (command ∷ source ∷ target ∷ link ∷ []) = one_asked command source target link
 asked _ = None
 
--- the files of a command have names of at most 255 bytes
-abbrev pub HasFileNames : Command → Type 0
-HasFileNames (Flat source target) = (length source.now ≤ 255) × (length target.now ≤ 255)
+-- the files of a command have names of at most 255 bytes, and a link is below 4
+abbrev pub IsWithin : Command → Type 0
+IsWithin (Flat source target) = (length source.now ≤ 255) × (length target.now ≤ 255)
+IsWithin (One source target link) = (length source.now ≤ 255) × (length target.now ≤ 255) × (link < 4)

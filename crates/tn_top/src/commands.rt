@@ -1,12 +1,14 @@
-ghost use Rattle.std.specs.Prelude.{◌≡◌, ◌≤◌, ◌↔◌, ◌⊎◌, ℕ, List, map, length, Some, None, IfOk, IfErr, string_bytes};
+ghost use Rattle.std.specs.Prelude.{◌≡◌, ◌<◌, ◌≤◌, ◌⊎◌, ℕ, List, map, length, vec_len, Some, None, IfOk, IfErr, string_bytes};
 ghost use Rattle.tn_io.specs.Faults.{Rose};
-ghost use Rattle.tn_top.specs.Words.{asked, seen, HasFileNames};
+ghost use Rattle.tn_top.specs.Words.{asked, seen, IsWithin};
 ghost use Rattle.tn_top.specs.Answers.{answer, status_of, coded, fault, limit, code};
 ghost use Rattle.tn_top.specs.Outcomes.{Told, IfTold, Cause, NothingFailed, FilesAfter};
+ghost use Rattle.tn_top.specs.OneProcessor.{boot_stream};
 ghost use Rattle.tn_top.specs.Sources.{IsCodeOf, IsRefusal, IsNoCode, SourceEnds, Ends};
 
 use crate::files::put_file;
 use crate::flat_source::{FlatFault, code_of, read_flat};
+use crate::one_processor::put_code_stream;
 use crate::statuses::Status;
 use crate::words::{Command, command_of};
 use std::alloc::{AllocError, Global};
@@ -59,11 +61,16 @@ pub fn run<S: Store, O: Out>(
 
 /// Does what a command asks for.
 fn perform<S: Store>(alloc: Global, command: Command<'_>, store: &mut S) -> Status
-    requires { HasFileNames command }
+    requires { IsWithin command }
     ensures { Ends (seen command.entry) (S.stored store.old) (S.stored store.new) result }
 {
     match command {
         Command::Flat { source, target } => flat(alloc, source, target, store),
+        Command::One {
+            source,
+            target,
+            link,
+        } => one(alloc, source, target, link, store),
     }
 }
 
@@ -84,10 +91,30 @@ fn flat<S: Store>(alloc: Global, source: &str, target: &str, store: &mut S) -> S
     }
 }
 
+/// Turns the flat source in one file into the stream, in another, that boots one processor by a
+/// link and runs the code.
+fn one<S: Store>(alloc: Global, source: &str, target: &str, link: u8, store: &mut S) -> Status
+    requires source { length source.now ≤ 255 }
+    requires target { length target.now ≤ 255 }
+    requires link { link < 4 }
+    ensures { SourceEnds source.now target.now (boot_stream link) (S.stored store.old) (S.stored store.new) result }
+{
+    let code = match flat_code(alloc, source, store) {
+        Ok(code) => code,
+        Err(status) => return status,
+    };
+    match put_code_stream(alloc, store, target, link, code) {
+        Ok(()) => Status::Done,
+        Err(PutFault::Failed) => Status::WriteFault,
+        Err(PutFault::NoMemory) => Status::NoMemory,
+    }
+}
+
 /// The code bytes of the flat source in a file.
 fn flat_code<S: Store>(alloc: Global, source: &str, store: &mut S) -> Result<Vec<u8>, Status>
     requires { length source.now ≤ 255 }
     ensures ok { IfOk result (λ bytes. IsCodeOf source.now (S.stored store.old) bytes.items) }
+    ensures within { IfOk result (λ bytes. vec_len bytes ≤ 262144) }
     ensures err { IfErr result (IsRefusal source.now (S.stored store.old) (S.stored store.new)) }
     ensures same { S.stored store.new ≡ record (S.stored store.old) { read_faults = (S.stored store.new).read_faults } }
 {
@@ -104,6 +131,7 @@ fn flat_code<S: Store>(alloc: Global, source: &str, store: &mut S) -> Result<Vec
 fn code_of_text(alloc: Global, text: &[u8]) -> Result<Vec<u8>, Status>
     requires { length text.now ≤ 1048576 }
     ensures ok { IfOk result (λ bytes. coded (Some text.now) ≡ code bytes.items) }
+    ensures within { IfOk result (λ bytes. vec_len bytes ≤ 262144) }
     ensures err { IfErr result (IsNoCode text.now) }
 {
     let instructions = match read_flat(alloc, text) {

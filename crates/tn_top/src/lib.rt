@@ -5,6 +5,7 @@ mod commands;
 mod files;
 mod flat_source;
 mod instructions;
+mod one_processor;
 mod statuses;
 mod words;
 

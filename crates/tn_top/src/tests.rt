@@ -65,6 +65,23 @@ fn expect(rt: &impl Abort, ended: &Ended, status: Status, file: Option<&[u8]>, c
 
 const FLAT: [&str; 3] = ["flat", "in.txt", "out.bin"];
 
+const ONE: [&str; 4] = ["one", "in.txt", "out.bin", "0"];
+
+/// The stream that boots one processor by link 0 with the four bytes 45 D1 60 0E, as worked out by
+/// hand: the control byte, the primary bootstrap, a length, the secondary, LOAD, NOP and RUN.
+const STREAM: [u8; 157] = [
+    0x39, 0xB4, 0x22, 0xF9, 0x25, 0xF7, 0x24, 0xF2, 0x21, 0xF8, 0x24, 0xF2, 0x21, 0xFC, 0x24, 0xF2,
+    0x25, 0xF4, 0x24, 0xF2, 0x24, 0xF2, 0xE9, 0x24, 0xF2, 0x24, 0xF2, 0xEA, 0x10, 0x24, 0xF2, 0x54,
+    0x44, 0xF7, 0x24, 0xF2, 0x24, 0x50, 0x24, 0xF2, 0x54, 0x70, 0xF7, 0x24, 0xF2, 0x28, 0x50, 0x23,
+    0xFC, 0x24, 0xF2, 0x54, 0xD3, 0x24, 0xF2, 0x24, 0x50, 0xF6, 0x37, 0x00, 0x00, 0x00, 0x10, 0x73,
+    0x4C, 0xF7, 0x70, 0x22, 0xAA, 0x70, 0xC1, 0x21, 0xAC, 0x72, 0x28, 0x40, 0xF9, 0xA4, 0x28, 0x40,
+    0xD4, 0x02, 0x72, 0xD4, 0x15, 0x73, 0x74, 0xF7, 0x15, 0x71, 0x74, 0xFB, 0x72, 0x74, 0xF4, 0xD2,
+    0x72, 0x62, 0xAB, 0x61, 0x04, 0x70, 0xC2, 0x62, 0xA5, 0x71, 0x72, 0x23, 0xFC, 0xF0, 0xF6, 0x71,
+    0x73, 0x72, 0xF7, 0x63, 0x09, 0x00, 0x00, 0x00, 0x00, 0x00, 0x04, 0x00, 0x80, 0x04, 0x00, 0x00,
+    0x00, 0x45, 0xD1, 0x60, 0x0E, 0x03, 0x00, 0x00, 0x00, 0x00, 0x00, 0x00, 0x00, 0x00, 0x00, 0x00,
+    0x00, 0x02, 0x00, 0x00, 0x00, 0x00, 0x04, 0x00, 0x80, 0x44, 0x04, 0x00, 0x80,
+];
+
 #[test]
 fn flat_sources_give_their_code(rt: HostRuntime) -> Result<(), Fail> {
     let table: [(&[u8], Status, Option<&[u8]>); 14] = [
@@ -101,7 +118,7 @@ fn flat_sources_give_their_code(rt: HostRuntime) -> Result<(), Fail> {
 
 #[test]
 fn words_that_spell_no_command_are_usage(rt: HostRuntime) -> Result<(), Fail> {
-    let table: [&[&str]; 7] = [
+    let table: [&[&str]; 12] = [
         &[],
         &["flat", "a"],
         &["flat", "in.txt", "out.bin", "more"],
@@ -109,6 +126,11 @@ fn words_that_spell_no_command_are_usage(rt: HostRuntime) -> Result<(), Fail> {
         &["flat", "in.txt", ""],
         &["Flat", "in.txt", "out.bin"],
         &["build", "-x", "y"],
+        &["one", "in.txt", "out.bin"],
+        &["one", "in.txt", "out.bin", "4"],
+        &["one", "in.txt", "out.bin", "x"],
+        &["one", "in.txt", "out.bin", "00"],
+        &["one", "in.txt", "out.bin", ""],
     ];
     for words in table {
         let ended = run_on(rt.alloc(), words, b"ldc 5\n", None)?;
@@ -116,6 +138,43 @@ fn words_that_spell_no_command_are_usage(rt: HostRuntime) -> Result<(), Fail> {
     }
     let ended = run_on(rt.alloc(), &["flat", "none", "out.bin"], b"", None)?;
     expect(&rt, &ended, Status::ReadFault, None, "missing");
+    Ok(())
+}
+
+#[test]
+fn one_processor_is_booted(rt: HostRuntime) -> Result<(), Fail> {
+    let source: &[u8] = b"ldc 5\nstl 1\nj -2\n";
+    let ended = run_on(rt.alloc(), &ONE, source, None)?;
+    expect(&rt, &ended, Status::Done, Some(&STREAM), "link 0");
+
+    // the boot link stands in three bytes
+    let mut by_link_3 = STREAM;
+    for at in [31, 40, 51] {
+        by_link_3[at] = 0x57;
+    }
+    let words = ["one", "in.txt", "out.bin", "3"];
+    let ended = run_on(rt.alloc(), &words, source, None)?;
+    expect(&rt, &ended, Status::Done, Some(&by_link_3), "link 3");
+
+    // without code there is no LOAD, and the workspace lies 16 words above the entry
+    let mut empty = Vec::from_slice(rt.alloc(), &STREAM[..117])?;
+    empty.extend_from_slice(&STREAM[133..153])?;
+    empty.extend_from_slice(&[0x40, 0x04, 0x00, 0x80])?;
+    let ended = run_on(rt.alloc(), &ONE, b"", None)?;
+    expect(&rt, &ended, Status::Done, Some(&empty), "empty");
+    assert_eq!(rt; empty.len(), 141);
+
+    let ended = run_on(rt.alloc(), &ONE, b"ldc 5", None)?;
+    expect(&rt, &ended, Status::Fault, None, "fault");
+    // get, create and the first write
+    for (call, status, file) in [
+        (0, Status::ReadFault, None),
+        (1, Status::WriteFault, None),
+        (2, Status::WriteFault, Some(b"".as_slice())),
+    ] {
+        let ended = run_on(rt.alloc(), &ONE, source, Some(call))?;
+        expect(&rt, &ended, status, file, "failing");
+    }
     Ok(())
 }
 
@@ -164,5 +223,24 @@ fn a_source_of_the_greatest_size_is_read(rt: HostRuntime) -> Result<(), Fail> {
     source.push(b'\n')?;
     let ended = run_on(rt.alloc(), &FLAT, &source, None)?;
     expect(&rt, &ended, Status::Limit, None, "limit");
+    Ok(())
+}
+
+#[test]
+fn code_of_the_greatest_size_is_written(rt: HostRuntime) -> Result<(), Fail> {
+    let mut source = Vec::new(rt.alloc());
+    for _ in 0..52_428 {
+        source.extend_from_slice(b"j 65536\n")?;
+    }
+    source.extend_from_slice(b"ldc 16\nldc 16\n")?;
+    let ended = run_on(rt.alloc(), &FLAT, &source, None)?;
+    assert_eq!(rt; ended.status, Status::Done);
+    let code = ended.store.file("out.bin").ok_or("no file")?;
+    assert_eq!(rt; code.len(), 262_144);
+    source.extend_from_slice(b"ldc 0\n")?;
+    for words in [&FLAT[..], &ONE] {
+        let ended = run_on(rt.alloc(), words, &source, None)?;
+        expect(&rt, &ended, Status::Limit, None, "limit");
+    }
     Ok(())
 }

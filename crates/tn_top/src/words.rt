@@ -1,11 +1,22 @@
-ghost use Rattle.std.specs.Prelude.{◌≡◌, map, string_bytes, IfSome};
+ghost use Rattle.std.specs.Prelude.{◌≡◌, ◌<◌, map, string_bytes, IfSome};
 ghost use Rattle.std.specs.Option.{option_map};
-ghost use Rattle.tn_top.specs.Words.{is_file_word, asked, seen, HasFileNames};
+ghost use Rattle.tn_top.specs.Words.{is_file_word, link_named, flat_asked, one_asked, asked, seen, IsWithin};
 
 /// What the words of a command line ask for.
+#[derive(Clone, Copy)]
 pub enum Command<'a> {
     /// Turn the flat source in one file into the code bytes in another.
-    Flat { source: &'a str, target: &'a str },
+    Flat {
+        source: &'a str,
+        target: &'a str,
+    },
+    /// Turn the flat source in one file into the stream, in another, that boots one processor by
+    /// this link and runs the code.
+    One {
+        source: &'a str,
+        target: &'a str,
+        link: u8,
+    },
 }
 
 /// The command that the words after the program's name spell, if they spell one. A file's name is
@@ -13,18 +24,51 @@ pub enum Command<'a> {
 #[tactic(auto, unfolding(crate::specs::Words::asked))]
 pub fn command_of(words: &[String]) -> Option<Command<'_>>
     ensures asked { option_map seen result ≡ asked (map string_bytes words.now) }
-    ensures names { IfSome result HasFileNames }
+    ensures within { IfSome result IsWithin }
 {
     match words {
-        [command, source, target] => {
-            let source = source.as_str();
-            let target = target.as_str();
-            if command.as_str() == "flat" && is_file_word(source) && is_file_word(target) {
-                Some(Command::Flat { source, target })
-            } else {
-                None
-            }
-        }
+        [command, source, target] => flat_words(command, source, target),
+        [command, source, target, link] => one_words(command, source, target, link),
+        _ => None,
+    }
+}
+
+/// The words of `flat IN OUT`.
+fn flat_words<'a>(command: &str, source: &'a str, target: &'a str) -> Option<Command<'a>>
+    ensures asked { option_map seen result ≡ flat_asked command.now source.now target.now }
+    ensures within { IfSome result IsWithin }
+{
+    if command == "flat" && is_file_word(source) && is_file_word(target) {
+        Some(Command::Flat { source, target })
+    } else {
+        None
+    }
+}
+
+/// The words of `one IN OUT K`.
+fn one_words<'a>(command: &str, source: &'a str, target: &'a str, link: &str) -> Option<Command<'a>>
+    ensures asked { option_map seen result ≡ one_asked command.now source.now target.now link.now }
+    ensures within { IfSome result IsWithin }
+{
+    if command != "one" || !is_file_word(source) || !is_file_word(target) {
+        return None;
+    }
+    let link = link_of(link)?;
+    Some(Command::One {
+        source,
+        target,
+        link,
+    })
+}
+
+/// The link that a word names: `0` to `3`.
+#[tactic(auto, using(std::proofs::lemmas::Bool::Decides::nat_tests), unfolding(crate::specs::Words::link_named))]
+fn link_of(word: &str) -> Option<u8>
+    ensures value { result ≡ link_named word.now }
+    ensures within { IfSome result (λ link. link < 4) }
+{
+    match word.as_bytes() {
+        [digit @ b'0'..=b'3'] => Some(digit - b'0'),
         _ => None,
     }
 }

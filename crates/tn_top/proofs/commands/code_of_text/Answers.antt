@@ -1,6 +1,5 @@
-use Rattle.std.proofs.Common.{map, length, arith, Err, None, Some, ap, sym, refl, ◌∙◌}
+use Rattle.std.proofs.Common.{map, length, arith, Err, None, Some, ap, sym, ◌∙◌}
 use Rattle.tn_top.specs.Answers.{within_limit}
-use Rattle.tn_top.specs.FlatSource.{code_of}
 use Rattle.tn_top.specs.Instructions.{instruction_of}
 use Rattle.tn_top.proofs.SourceSteps.{coded-text, within_limit-code, within_limit-too_much}
 use Rattle.tn_top.proofs.commands.code_of_text.Goals as goal

@@ -1,19 +1,7 @@
-use Rattle.std.proofs.Common.{Result, Ok, Err, OnOk, OnErr, subst, sym, ◌∙◌}
+use Rattle.std.proofs.Common.{subst, sym, ◌∙◌}
 use Rattle.tn_top.specs.Outcomes.{Told, Holds}
-use Rattle.tn_top.proofs.Puts.{refused-create, refused-write, written, refused-close}
+use Rattle.tn_top.proofs.Puts.{on_err_always, on_ok_more, on_err_more, refused-create, refused-write, written, refused-close}
 use Rattle.tn_top.proofs.files.put_file.Goals as goal
-
-on_err_always : {T E P : Type 0} (r : Result T E) → P → OnErr r P
-on_err_always (Ok x) p = tt
-on_err_always (Err e) p = p
-
-on_ok_more : {T E P Q : Type 0} (r : Result T E) → OnOk r P → (P → Q) → OnOk r Q
-on_ok_more (Ok x) p f = f p
-on_ok_more (Err e) p f = tt
-
-on_err_more : {T E P Q : Type 0} (r : Result T E) → OnErr r P → (P → Q) → OnErr r Q
-on_err_more (Ok x) p f = tt
-on_err_more (Err e) p f = f p
 
 pub returns-in_err-create-clause-err : goal.returns-in_err-create-clause-err
 returns-in_err-create-clause-err g c =
