@@ -1,3 +1,6 @@
+ghost use Rattle.std.specs.Prelude.{◌≤◌, ◌^◌, length, vec_len, IfOk};
+ghost use Rattle.tn_stream.specs.Images.{image_of, AreLoadable};
+
 use crate::{Image, Segment, StreamFault, collect_one};
 use std::alloc::{AllocError, Global};
 use std::test::Fail;
@@ -19,7 +22,11 @@ const STREAM: [u8; 157] = [
 ];
 
 /// An image of the bytes 45 D1 60 0E at 0x80000400, or of none of them.
-fn image(alloc: Global, bytes: &[u8]) -> Result<Image, AllocError> {
+fn image(alloc: Global, bytes: &[u8]) -> Result<Image, AllocError>
+    requires { length bytes.now ≤ 2 ^ 20 }
+    ensures few { IfOk result (λ image. vec_len image.segments ≤ 1) }
+    ensures loadable { IfOk result (λ image. AreLoadable (image_of image).segments) }
+{
     let mut segments = Vec::new(alloc);
     if !bytes.is_empty() {
         segments.push(Segment {
@@ -54,8 +61,9 @@ fn one_processor(rt: HostRuntime) -> Result<(), Fail> {
     let empty = image(rt.alloc(), &[])?;
     let mut emit = MemOut::new(Vec::new(rt.alloc()));
     assert_eq!(rt; collect_one(rt.alloc(), 0, &empty, &mut emit), Ok(141));
-    assert!(rt; emit.bytes()[..117] == STREAM[..117]);
-    assert!(rt; emit.bytes()[117..] == STREAM[133..]);
+    let mut expected = Vec::from_slice(rt.alloc(), &STREAM[..117])?;
+    expected.extend_from_slice(&STREAM[133..])?;
+    assert!(rt; emit.bytes() == expected.as_slice());
     Ok(())
 }
 
