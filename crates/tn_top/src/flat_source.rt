@@ -68,7 +68,9 @@ fn plain_line(line: &[u8]) -> Option<Instruction>
     ensures { option_map instruction_of result ≡ plain_line line.now }
 {
     let (name, token) = cut(b' ', line)?;
-    let Mnemonic::Direct(fun) = mnemonic_spelled(name)?;
+    let Mnemonic::Direct(fun) = mnemonic_spelled(name)? else {
+        return None;
+    };
     let operand = number(token)?;
     Some(Instruction { fun, operand })
 }
