@@ -1,5 +1,5 @@
 -- A flat source by its first line.
-use Rattle.std.proofs.Common.{◌≡◌, append_assoc, append-nil, ℕ, ◌+◌, ◌<◌, ◌≤◌, Bool, true, false, cond, ℤ, List, [], ◌∷◌, ◌++◌, length, get_or, Option, Some, None, refl, sym, ap, ◌∙◌, ltb, arith}
+use Rattle.std.proofs.Common.{◌≡◌, append_assoc, append-nil, ℕ, ◌<◌, ◌≤◌, Bool, true, false, cond, ℤ, List, [], ◌∷◌, ◌++◌, length, Option, Some, None, refl, sym, ap, ◌∙◌, ltb, arith}
 use Rattle.std.specs.Option.{option_map}
 use Rattle.std.specs.Bool.{◌==◌}
 use Rattle.std.specs.List.{All, onto_first, slice_split, position_or_len, before_first, after_first}
@@ -19,6 +19,7 @@ behind_line line p (c ∷ cs) = at (p c) (slice_split p cs)
     onto : (parts : List (List ℕ)) → plain_lines (line ∷ onto_first c parts) ≡ (plain_line line >>= λ i. option_map (λ is. i ∷ is) (plain_lines (onto_first c parts)))
     onto [] = refl
     onto (part ∷ parts) = refl
+
     at : (b : Bool) (parts : List (List ℕ)) → plain_lines (line ∷ cond b ([] ∷ parts) (onto_first c parts)) ≡ (plain_line line >>= λ i. option_map (λ is. i ∷ is) (plain_lines (cond b ([] ∷ parts) (onto_first c parts))))
     at true parts = refl
     at false parts = onto parts

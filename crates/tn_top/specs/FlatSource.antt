@@ -1,5 +1,5 @@
 -- Flat sources: lines of a mnemonic, one blank and a number, each ended by a line feed.
-use Rattle.std.specs.Prelude.{ℕ, ◌^◌, ℤ, pos, neg_ℤ, Bool, ◌&&◌, ◌==◌, nat_lt, nat_le, List, [], ◌∷◌, length, flat_map, Option, Some, None, option_and_then, option_map, if◌then◌else◌}
+use Rattle.std.specs.Prelude.{ℕ, ◌^◌, ℤ, pos, neg_ℤ, ◌&&◌, ◌==◌, nat_lt, nat_le, List, [], ◌∷◌, length, flat_map, Option, Some, None, option_and_then, option_map, if◌then◌else◌}
 use Rattle.std.specs.List.{list_all, slice_split, position_or_len, before_first, after_first}
 use Rattle.std.specs.Char.{is_ascii_digit}
 use Rattle.std.specs.Str.Parse.{digits_value}
@@ -24,6 +24,7 @@ natural_of digits = if nat_le 1 (length digits) && (nat_le (length digits) 10 &&
 -- n and -n as signed words
 abbrev pub positive : ℕ → Option ℤ
 positive n = if nat_lt n (2 ^ 31) then Some (pos n) else None
+
 abbrev pub negative : ℕ → Option ℤ
 negative n = if nat_le n (2 ^ 31) then Some (neg_ℤ (pos n)) else None
 

@@ -5,13 +5,12 @@ ghost use Rattle.tn_top.specs.Answers.{answer, status_of, coded, not_plain, faul
 ghost use Rattle.tn_top.specs.Outcomes.{Told, IfTold, Cause, NothingFailed, FilesAfter};
 ghost use Rattle.tn_top.specs.Flat.{IsCodeOf, IsRefusal, FlatEnds, Ends};
 
-use std::alloc::{AllocError, Global};
-use tn_io::{GetFault, Out, PutFault, Store};
-
 use crate::files::put_file;
 use crate::flat_source::{FlatFault, code_of, read_flat};
 use crate::statuses::Status;
 use crate::words::{Command, command_of};
+use std::alloc::{AllocError, Global};
+use tn_io::{GetFault, Out, PutFault, Store};
 
 /// The most bytes that a file may have.
 const FILE_LIMIT: u64 = 1_048_576;

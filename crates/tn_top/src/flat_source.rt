@@ -4,11 +4,10 @@ ghost use Rattle.std.specs.List.{slice_split};
 ghost use Rattle.tn_top.specs.FlatSource.{natural_of, number_of, plain_line, flat_of, cut, code_of as code_of_flat};
 ghost use Rattle.tn_top.specs.Instructions.{instruction_of};
 
+use crate::instructions::Instruction;
 use std::alloc::{AllocError, AllocFailed, Global};
 use tn_isa::{Mnemonic, mnemonic_spelled};
 use tn_prefix::encode;
-
-use crate::instructions::Instruction;
 
 /// Why a text gives no instructions.
 #[derive(Clone, Copy, PartialEq)]
@@ -63,7 +62,7 @@ pub fn code_of(alloc: Global, instructions: &[Instruction]) -> Result<Vec<u8>, A
 }
 
 /// The instruction of a plain line.
-#[tactic(auto, unfolding(crate::specs::FlatSource::plain_line))]
+#[tactic(auto, using(tn_prefix::proofs::Instructions::coded_functions), unfolding(crate::specs::FlatSource::plain_line))]
 fn plain_line(line: &[u8]) -> Option<Instruction>
     ensures { option_map instruction_of result ≡ plain_line line.now }
 {

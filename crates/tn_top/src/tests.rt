@@ -2,20 +2,15 @@ ghost use Rattle.std.specs.Prelude.{◌≤◌, length, IfOk};
 ghost use Rattle.tn_io.specs.FileLists.{HasDistinctNames};
 ghost use Rattle.tn_io.specs.MemStores.{files_of};
 
+use crate::{Status, code, run};
 use std::alloc::{AllocError, Global};
 use std::process::Abort;
 use std::test::Fail;
 use tn_io::{FileText, MemOut, MemStore};
 
-use crate::{Status, code, run};
-
 /// The files of a store with one file.
 #[tactic(auto, unfolding(tn_io::specs::FileLists::held, tn_io::specs::FileLists::HasDistinctNames))]
-fn one_file(
-    alloc: Global,
-    name: &str,
-    bytes: &[u8],
-) -> Result<Vec<(FileText, Vec<u8>)>, AllocError>
+fn one_file(alloc: Global, name: &str, bytes: &[u8]) -> Result<Vec<(FileText, Vec<u8>)>, AllocError>
     requires { length name.now ≤ 255 }
     ensures { IfOk result (λ files. HasDistinctNames (files_of files.items)) }
 {
