@@ -1,0 +1,17 @@
+//! What all readers and writers of texts share: names, numbers, the faults of texts and their
+//! lines, lines and tokens, and the reading of a text line by line.
+#![tactic(auto)]
+
+mod fault_lines;
+mod faults;
+mod file_names;
+mod names;
+mod puts;
+mod words;
+
+pub use fault_lines::put_place;
+pub use faults::{Cause, Detail, Fault, FaultCode, Lack, Part, ReadFault, Region};
+pub use file_names::{FILE_NAME_LIMIT, FileName};
+pub use names::{NAME_LIMIT, Name, is_name, is_name_spelling};
+pub use puts::{Put, PutRefused, put_decimal, put_spaced, put_spaced_decimal};
+pub use words::word_text;
