@@ -1,0 +1,3 @@
+pub mod FlatSources
+pub mod FlatReading
+pub mod Instructions

@@ -1,0 +1,12 @@
+ghost use Rattle.tn_prefix.specs.Coding.{IsCoded};
+
+use tn_isa::Fun;
+
+/// An instruction: a function with its operand. An operation is the function `opr` with the
+/// operation's code as operand.
+#[derive(Clone, Copy, Debug, PartialEq, Eq)]
+pub struct Instruction {
+    pub fun: Fun,
+    pub operand: i32,
+    ghost coded: { IsCoded fun },
+}
