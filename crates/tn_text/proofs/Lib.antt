@@ -1,2 +1,4 @@
 pub mod Cells
 pub mod Putting
+pub mod Digits
+pub mod Walking

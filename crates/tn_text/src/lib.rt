@@ -6,6 +6,7 @@ mod fault_lines;
 mod faults;
 mod file_names;
 mod names;
+mod numbers;
 mod puts;
 mod words;
 
@@ -13,5 +14,6 @@ pub use fault_lines::put_place;
 pub use faults::{Cause, Detail, Fault, FaultCode, Lack, Part, ReadFault, Region};
 pub use file_names::{FILE_NAME_LIMIT, FileName};
 pub use names::{NAME_LIMIT, Name, is_name, is_name_spelling};
+pub use numbers::{begins_number, number};
 pub use puts::{Put, PutRefused, put_decimal, put_spaced, put_spaced_decimal};
 pub use words::word_text;
