@@ -2,3 +2,4 @@ pub mod Cells
 pub mod Putting
 pub mod Digits
 pub mod Walking
+pub mod Cutting

@@ -12,6 +12,7 @@ natural_of radix most digits =
 -- the words of n and of -n, where they are signed words
 abbrev pub positive : ℕ → Option ℕ
 positive n = if nat_lt n (2 ^ 31) then Some n else None
+
 abbrev pub negative : ℕ → Option ℕ
 negative n = if nat_le n (2 ^ 31) then Some ((2 ^ 32 - n) % 2 ^ 32) else None
 

@@ -5,6 +5,7 @@
 mod fault_lines;
 mod faults;
 mod file_names;
+mod lines;
 mod names;
 mod numbers;
 mod puts;
@@ -13,6 +14,7 @@ mod words;
 pub use fault_lines::put_place;
 pub use faults::{Cause, Detail, Fault, FaultCode, Lack, Part, ReadFault, Region};
 pub use file_names::{FILE_NAME_LIMIT, FileName};
+pub use lines::{is_ascii_line, next_line, tokens_of};
 pub use names::{NAME_LIMIT, Name, is_name, is_name_spelling};
 pub use numbers::{begins_number, number};
 pub use puts::{Put, PutRefused, put_decimal, put_spaced, put_spaced_decimal};

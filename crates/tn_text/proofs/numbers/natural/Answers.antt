@@ -1,4 +1,4 @@
-use Rattle.std.proofs.Common.{◌≡◌, ◌*◌, ◌<◌, ◌≤◌, true, get_or, take, length, arith, sym, ap, ◌∙◌}
+use Rattle.std.proofs.Common.{◌<◌, get_or, take, arith}
 use Rattle.std.specs.Char.{digit_value}
 use Rattle.std.proofs.lemmas.List.{length-take}
 use Rattle.tn_text.proofs.Digits.{few_digits, room, one_more}
