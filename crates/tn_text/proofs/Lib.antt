@@ -3,3 +3,4 @@ pub mod Putting
 pub mod Digits
 pub mod Walking
 pub mod Cutting
+pub mod ReadingLoops

@@ -6,5 +6,6 @@ pub mod Puts
 pub mod Words
 pub mod Faults
 pub mod FaultLines
+pub mod Places
 pub mod Lines
 pub mod Reading

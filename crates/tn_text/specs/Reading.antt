@@ -65,6 +65,11 @@ token_step step s line = if is_ascii_line line then said step s (tokens line) el
 abbrev pub read_text : {S A : Type 0} → (S → List (List ℕ) → Result S Cause) → (S → Result A Cause) → S → List ℕ → Result A Fault
 read_text step finish s text = read_lines (token_step step) finish s 0 (lines text)
 
+-- In a loop: reading the rest of a text, before which n lines stand, from a state gives what reading
+-- the whole text from its first state gives.
+abbrev pub ReadsOn : {S A : Type 0} → (S → List ℕ → Result S Cause) → (S → Result A Cause) → S → ℕ → List ℕ → Result A Fault → Type 0
+ReadsOn step finish s n rest whole = read_lines step finish s n (lines rest) ≡ whole
+
 -- a reader gives this answer, unless there is no memory
 abbrev pub Gives : {T A : Type 0} → (T → A) → Result T ReadFault → Result A Fault → Type 0
 Gives seen (Ok value) answer = Ok (seen value) ≡ answer
