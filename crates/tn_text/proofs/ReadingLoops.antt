@@ -1,12 +1,10 @@
 -- The loop that reads a text line by line.
-use Rattle.std.proofs.Common.{◌≡◌, ℕ, ◌+◌, true, false, List, [], ◌∷◌, Result, Ok, Err, refl, sym, ap, ◌∙◌}
+use Rattle.std.proofs.Common.{◌≡◌, ℕ, ◌+◌, List, [], ◌∷◌, Result, Ok, Err, refl, sym, ap, ◌∙◌}
 use Rattle.std.specs.Str.Lines.{lines}
 use Rattle.tn_text.specs.declared.faults.Cause.{Cause}
 use Rattle.tn_text.specs.declared.faults.Fault.{Fault}
-use Rattle.tn_text.specs.declared.faults.FaultCode.TheVariants.{NotAscii}
-use Rattle.tn_text.specs.Faults.{bare, fault_at}
-use Rattle.tn_text.specs.Lines.{is_ascii_line, tokens}
-use Rattle.tn_text.specs.Reading.{placed, read_lines, ReadsOn, said, token_step}
+use Rattle.tn_text.specs.Faults.{fault_at}
+use Rattle.tn_text.specs.Reading.{result_then, placed, read_lines, ReadsOn, said, line_tokens, token_step}
 use Rattle.tn_text.proofs.Walking.{read_line, bad_line, no_line}
 
 module _ {S A : Type 0} (step : S → List ℕ → Result S Cause) (finish : S → Result A Cause) (s : S) (n : ℕ) (rest : List ℕ) (whole : Result A Fault) (so_far : ReadsOn step finish s n rest whole) where
@@ -25,12 +23,12 @@ module _ {S A : Type 0} (step : S → List ℕ → Result S Cause) (finish : S �
   reads-end cut = sym so_far ∙ (ap (read_lines step finish s n) cut ∙ no_line step finish s n)
 
 module _ {S : Type 0} (step : S → List (List ℕ) → Result S Cause) (s : S) (line : List ℕ) where
-  -- a byte that may not stand in a line
-  pub token_step-bytes : is_ascii_line line ≡ false → token_step step s line ≡ Err (bare NotAscii)
+  -- the step over a line, by its tokens
+  pub token_step-tokens : (words : List (List ℕ)) → line_tokens line ≡ Ok words → token_step step s line ≡ said step s words
   unfolding token_step
-  token_step-bytes e = rw e refl
+  token_step-tokens words e = ap (λ r. result_then r (said step s)) e
 
-  -- a line whose bytes may stand there, by its tokens
-  pub token_step-said : is_ascii_line line ≡ true → token_step step s line ≡ said step s (tokens line)
+  -- the step over a line that has no tokens to be read
+  pub token_step-refused : (cause : Cause) → line_tokens line ≡ Err cause → token_step step s line ≡ Err cause
   unfolding token_step
-  token_step-said e = rw e refl
+  token_step-refused cause e = ap (λ r. result_then r (said step s)) e

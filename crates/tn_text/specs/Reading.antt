@@ -56,10 +56,14 @@ abbrev pub said : {S : Type 0} → (S → List (List ℕ) → Result S Cause) �
 said step s [] = Ok s
 said step s (word ∷ words) = step s (word ∷ words)
 
+-- the tokens of a line, where only bytes stand in it that may
+unfoldable pub line_tokens : List ℕ → Result (List (List ℕ)) Cause
+line_tokens line = if is_ascii_line line then Ok (tokens line) else Err (bare NotAscii)
+
 -- the step over a line of a text with tokens: bytes that may not stand in a line come before all
 -- other faults, and a line without tokens says nothing
 unfoldable pub token_step : {S : Type 0} → (S → List (List ℕ) → Result S Cause) → S → List ℕ → Result S Cause
-token_step step s line = if is_ascii_line line then said step s (tokens line) else Err (bare NotAscii)
+token_step step s line = result_then (line_tokens line) (said step s)
 
 -- what reading the lines of a text with tokens gives
 abbrev pub read_text : {S A : Type 0} → (S → List (List ℕ) → Result S Cause) → (S → Result A Cause) → S → List ℕ → Result A Fault

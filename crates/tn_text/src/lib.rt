@@ -10,6 +10,7 @@ mod names;
 mod numbers;
 mod places;
 mod puts;
+mod reading;
 mod words;
 
 pub use fault_lines::put_place;
@@ -20,6 +21,7 @@ pub use names::{NAME_LIMIT, Name, is_name, is_name_spelling};
 pub use numbers::{begins_number, number};
 pub use places::{name_at, number_at};
 pub use puts::{Put, PutRefused, put_decimal, put_spaced, put_spaced_decimal};
+pub use reading::read_tokens;
 pub use words::word_text;
 
 #[cfg(test)]
