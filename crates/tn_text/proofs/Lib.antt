@@ -1,2 +1,6 @@
 pub mod Cells
 pub mod Putting
+pub mod Digits
+pub mod Walking
+pub mod Cutting
+pub mod ReadingLoops

@@ -1,7 +1,11 @@
 pub mod Names
 pub mod HeldNames
 pub mod FileNames
+pub mod Numbers
 pub mod Puts
 pub mod Words
 pub mod Faults
 pub mod FaultLines
+pub mod Places
+pub mod Lines
+pub mod Reading

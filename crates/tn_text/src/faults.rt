@@ -2,7 +2,7 @@ ghost use Rattle.std.specs.Prelude.{◌≡◌};
 ghost use Rattle.tn_text.specs.Faults.{fault_at};
 
 use crate::names::Name;
-use std::alloc::AllocFailed;
+use std::alloc::{AllocError, AllocFailed};
 
 /// What is wrong in a text, or in the modules, the configuration or the network that texts
 /// describe. The numbers of the faults are 1 to 20 in this order.
@@ -145,6 +145,17 @@ impl<T: Drop> From<AllocFailed<T>> for ReadFault {
     ghost from_gives = { λ _ e. e ≡ NoMemory };
 
     fn from(_failed: AllocFailed<T>) -> ReadFault {
+        ReadFault::NoMemory
+    }
+}
+
+impl From<AllocError> for ReadFault {
+    ghost use Rattle.std.specs.Prelude.{◌≡◌};
+    ghost use Rattle.tn_text.specs.declared.faults.ReadFault.TheVariants.{NoMemory};
+
+    ghost from_gives = { λ _ e. e ≡ NoMemory };
+
+    fn from(_error: AllocError) -> ReadFault {
         ReadFault::NoMemory
     }
 }

@@ -5,13 +5,24 @@
 mod fault_lines;
 mod faults;
 mod file_names;
+mod lines;
 mod names;
+mod numbers;
+mod places;
 mod puts;
+mod reading;
 mod words;
 
 pub use fault_lines::put_place;
 pub use faults::{Cause, Detail, Fault, FaultCode, Lack, Part, ReadFault, Region};
 pub use file_names::{FILE_NAME_LIMIT, FileName};
+pub use lines::{is_ascii_line, next_line, tokens_of};
 pub use names::{NAME_LIMIT, Name, is_name, is_name_spelling};
+pub use numbers::{begins_number, number};
+pub use places::{name_at, number_at};
 pub use puts::{Put, PutRefused, put_decimal, put_spaced, put_spaced_decimal};
+pub use reading::read_tokens;
 pub use words::word_text;
+
+#[cfg(test)]
+mod tests;

@@ -1,0 +1,32 @@
+ghost use Rattle.std.specs.Prelude.{◌≡◌, ◌≤◌};
+ghost use Rattle.tn_text.specs.Places.{name_at, number_at};
+
+use crate::faults::{Cause, FaultCode};
+use crate::names::{Name, is_name_spelling};
+use crate::numbers::number;
+
+/// The name that a token is, in a place where names have at most `limit` bytes. `NameTooLong` comes
+/// where the token spells a longer name, `BadLine` where it spells none.
+#[tactic(auto, unfolding(crate::specs::Places::name_at))]
+pub fn name_at(token: &[u8], limit: usize) -> Result<Name, Cause>
+    requires { limit ≤ 64 }
+    ensures { result ≡ name_at limit token.now }
+{
+    if !is_name_spelling(token) {
+        return Err(Cause::bare(FaultCode::BadLine));
+    }
+    if token.len() > limit {
+        return Err(Cause::bare(FaultCode::NameTooLong));
+    }
+    Name::of(token).ok_or(Cause::bare(FaultCode::BadLine))
+}
+
+/// The word of the number that a token is. `BadNumber` comes where it is none.
+pub fn number_at(token: &[u8]) -> Result<u32, Cause>
+    ensures { result ≡ number_at token.now }
+{
+    match number(token) {
+        Some(word) => Ok(word),
+        None => Err(Cause::bare(FaultCode::BadNumber)),
+    }
+}
