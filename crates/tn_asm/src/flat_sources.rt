@@ -19,6 +19,7 @@ use tn_text::{Cause, FaultCode, ReadFault, is_ascii_line, next_line, number_at, 
 /// word or a number of tokens that is not right, else `BadNumber`.
 pub fn read_flat(alloc: Global, text: &[u8]) -> Result<Vec<Instruction>, ReadFault>
     requires { length text.now < 2 ^ 30 }
+    ensures gives { Gives (λ found. map instruction_of found.items) result (flat_read text.now) }
     ensures found { IfOk result (λ found. IsFlat text.now (map instruction_of found.items)) }
     ensures only { (instructions : List (Fun × ℤ)) → IsFlat text.now instructions → Gives (λ found. map instruction_of found.items) result (Ok instructions) }
     ensures fault { (fault : _) → result ≡ Err (read.Fault fault) → IsFlatFault text.now fault }

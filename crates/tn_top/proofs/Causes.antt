@@ -1,14 +1,21 @@
 -- What follows of a command from how it ends.
-use Rattle.std.proofs.Common.{◌≡◌, ◌≢◌, ℕ, ◌⊎◌, inl, inr, not, Bool, true, false, cond, List, [], ◌∷◌, codes, Option, Some, None, IfSome, IsSomeAnd, refl, sym, ap, ◌∙◌, subst}
+use Rattle.std.proofs.Common.{◌≡◌, ◌≢◌, ℕ, ◌⊎◌, inl, inr, not, Bool, true, false, cond, List, [], ◌∷◌, codes, Option, Some, None, IfSome, IsSomeAnd, Result, Ok, Err, refl, sym, ap, ◌∙◌, subst}
 use Rattle.std.specs.Str.{bytes_eq}
 use Rattle.tn_io.specs.Faults.{Rose}
 use Rattle.tn_io.specs.FileLists.{Files, held}
 use Rattle.tn_io.specs.Stores.{Stored, told}
 use Rattle.tn_top.specs.declared.statuses.Status.{Status}
-use Rattle.tn_top.specs.declared.statuses.Status.TheVariants.{Done, Fault, Usage, Limit, ReadFault, WriteFault, OutFault, NoMemory, NotEnabled}
-use Rattle.tn_top.specs.Words.{Asked, asked, flat, one}
+use Rattle.tn_top.specs.declared.statuses.Status.TheVariants as kind
+use Rattle.tn_top.specs.declared.statuses.Status.TheVariants.{Done, Usage, Limit, ReadFault, WriteFault, OutFault, NoMemory, NotEnabled}
+use Rattle.tn_text.specs.declared.faults.Fault.{Fault}
+use Rattle.tn_text.specs.FaultLines.{fault_line}
+use Rattle.tn_top.specs.declared.refusals.Refusal.{Refusal}
+use Rattle.tn_top.specs.declared.refusals.Refusal.TheVariants as refusal
+use Rattle.tn_top.specs.Refusals.{limit_line, unwritten_line, end_status, end_line, refused_status, refused_line}
+use Rattle.tn_top.specs.ErrLines.{IsLine}
+use Rattle.tn_top.specs.Words.{Asked, asked, source_of, target_of, flat, one}
 use Rattle.tn_top.specs.OneProcessor.{boot_stream}
-use Rattle.tn_top.specs.Answers.{Answer, usage, unread, fault, limit, done, Coded, coded, missing, too_long, too_much, not_plain, code, source_answer, answer_to, answer, status_of}
+use Rattle.tn_top.specs.Answers.{Answer, usage, unread, fault, limit, done, Coded, coded, missing, too_long, too_much, faulty, code, source_answer, answer_to, answer, status_of}
 use Rattle.tn_top.specs.Outcomes.{Told, IfTold, Holds, HoldsPart, without, IsDone, CannotRead, Cause, NothingFailed, FilesAfter}
 use Rattle.tn_top.specs.Sources.{SourceEnds, Ends}
 use Rattle.tn_top.proofs.Puts.{told-weaker, part-same}
@@ -47,10 +54,6 @@ module _ (words : List (List ℕ)) (source target : List ℕ) (made : List ℕ �
   told_says : (gives : Coded) → IfSome (told before.files source) (λ file. coded file ≡ gives) → IfTold before.files (λ files. answer words files ≡ source_answer source target made gives)
   told_says gives h = if_told before.files source (λ file. coded file ≡ gives) (λ files. answer words files ≡ source_answer source target made gives) (λ files e. said files gives e) h
 
-  limited : (files : Files) → (coded (held files source) ≡ too_long) ⊎ ((count : ℕ) × (coded (held files source) ≡ too_much count)) → (word : List ℕ) × (count : ℕ) × (answer words files ≡ limit word count)
-  limited files (inl e) = (codes "file", 1048577, said files too_long e)
-  limited files (inr p) = (codes "code", p.0, said files (too_much p.0) p.1)
-
   more : {P Q : Files → Type 0} (files : Option Files) → ((fs : Files) → P fs → Q fs) → IfTold files P → IfTold files Q
   more None f h = tt
   more (Some fs) f h = f fs h
@@ -69,31 +72,40 @@ module _ (words : List (List ℕ)) (source target : List ℕ) (made : List ℕ �
       some_same : Some (held fs source) ≡ Some None → held fs source ≡ None
       some_same e = cc
 
-  source_cause : (status : Status) → SourceEnds source target made before after status → Cause words before after status
-  unfolding SourceEnds
-  source_cause Done h = more before.files (λ fs e. done_by (answer words fs) (Some (target, made h.1.0)) [] e) (told_says (code h.1.0) h.1.1)
-  source_cause Fault h = more before.files (λ fs e. (source, e)) (told_says not_plain h.1)
-  source_cause Usage h = absurd h.1
-  source_cause Limit h = if_told before.files source (λ file. (coded file ≡ too_long) ⊎ ((count : ℕ) × (coded file ≡ too_much count))) (λ fs. (word : List ℕ) × (count : ℕ) × (answer words fs ≡ limit word count)) limited h.1
-  source_cause ReadFault h = (source, at h.1)
-    where
-      at : Rose before.read_faults after.read_faults ⊎ (told before.files source ≡ Some None) → CannotRead words before after source
-      at (inl rose) = inr (rose, unread_without before.files)
-      at (inr e) = inl (unread_missing before.files e)
-  source_cause WriteFault h = (h.0, more before.files (λ fs e. done_by (answer words fs) (Some (target, made h.1.0)) [] e) (told_says (code h.1.0) h.1.1))
-  source_cause OutFault h = absurd h.1
-  source_cause NoMemory h = tt
-  source_cause NotEnabled h = absurd h.1
+  cannot_read : Rose before.read_faults after.read_faults ⊎ (told before.files source ≡ Some None) → CannotRead words before after source
+  cannot_read (inl rose) = inr (rose, unread_without before.files)
+  cannot_read (inr e) = inl (unread_missing before.files e)
 
-  -- What a status says of the answer: it is the answer's status, or want of memory, or a failed
-  -- write of an answer that was done.
-  source_says : (status : Status) → SourceEnds source target made before after status → (Rose before.read_faults after.read_faults → ⊥) → IfTold before.files (λ fs. Says (answer words fs) before after status)
+  source_cause : {T : Type 0} (ended : Result T Refusal) → SourceEnds source target made before after ended → Cause words before after (end_status ended)
   unfolding SourceEnds
-  source_says Done h calm = more before.files (λ fs e. same (ap status_of (sym e))) (told_says (code h.1.0) h.1.1)
-  source_says Fault h calm = more before.files (λ fs e. same (ap status_of (sym e))) (told_says not_plain h.1)
-  source_says Usage h calm = absurd h.1
-  source_says Limit h calm = if_told before.files source (λ file. (coded file ≡ too_long) ⊎ ((count : ℕ) × (coded file ≡ too_much count))) (λ fs. Says (answer words fs) before after Limit) (λ fs r. same (ap status_of (sym (limited fs r).2))) h.1
-  source_says ReadFault h calm = at h.1
+  source_cause (Ok x) h = more before.files (λ fs e. done_by (answer words fs) (Some (target, made h.1.0)) [] e) (told_says (code h.1.0) h.1.1)
+  source_cause (Err (refusal.Fault first)) h = more before.files (λ fs e. (source, first, e)) (told_says (faulty first) h.1)
+  source_cause (Err refusal.LongFile) h = more before.files (λ fs e. (codes "file", 1048577, e)) (told_says too_long h.1)
+  source_cause (Err (refusal.MuchCode count)) h = more before.files (λ fs e. (codes "code", count, e)) (told_says (too_much count) h.1)
+  source_cause (Err refusal.Unread) h = (source, cannot_read h.1)
+  source_cause (Err refusal.Unwritten) h = (h.0, more before.files (λ fs e. done_by (answer words fs) (Some (target, made h.1.0)) [] e) (told_says (code h.1.0) h.1.1))
+  source_cause (Err refusal.NoMemory) h = tt
+
+  -- the line of how it ended
+  source_line : {T : Type 0} (ended : Result T Refusal) → SourceEnds source target made before after ended → IsLine words before after (end_status ended) (end_line source target ended)
+  unfolding SourceEnds refused_line
+  source_line (Ok x) h = refl
+  source_line (Err (refusal.Fault first)) h = more before.files (λ fs e. (source, first, e, refl)) (told_says (faulty first) h.1)
+  source_line (Err refusal.LongFile) h = more before.files (λ fs e. (codes "file", 1048577, e, refl)) (told_says too_long h.1)
+  source_line (Err (refusal.MuchCode count)) h = more before.files (λ fs e. (codes "code", count, e, refl)) (told_says (too_much count) h.1)
+  source_line (Err refusal.Unread) h = (source, cannot_read h.1, refl)
+  source_line (Err refusal.Unwritten) h = more before.files (λ fs e. (target, made h.1.0, [], e, refl)) (told_says (code h.1.0) h.1.1)
+  source_line (Err refusal.NoMemory) h = refl
+
+  -- What an end says of the answer: its status is the answer's, or want of memory, or a failed write
+  -- of an answer that was done.
+  source_says : {T : Type 0} (ended : Result T Refusal) → SourceEnds source target made before after ended → (Rose before.read_faults after.read_faults → ⊥) → IfTold before.files (λ fs. Says (answer words fs) before after (end_status ended))
+  unfolding SourceEnds
+  source_says (Ok x) h calm = more before.files (λ fs e. same (ap status_of (sym e))) (told_says (code h.1.0) h.1.1)
+  source_says (Err (refusal.Fault first)) h calm = more before.files (λ fs e. same (ap status_of (sym e))) (told_says (faulty first) h.1)
+  source_says (Err refusal.LongFile) h calm = more before.files (λ fs e. same (ap status_of (sym e))) (told_says too_long h.1)
+  source_says (Err (refusal.MuchCode count)) h calm = more before.files (λ fs e. same (ap status_of (sym e))) (told_says (too_much count) h.1)
+  source_says (Err refusal.Unread) h calm = at h.1
     where
       told_missing : (files : Option Files) → IsSomeAnd files (λ fs. answer words fs ≡ unread source) → IfTold files (λ fs. Says (answer words fs) before after ReadFault)
       told_missing None m = tt
@@ -102,14 +114,12 @@ module _ (words : List (List ℕ)) (source target : List ℕ) (made : List ℕ �
       at : Rose before.read_faults after.read_faults ⊎ (told before.files source ≡ Some None) → IfTold before.files (λ fs. Says (answer words fs) before after ReadFault)
       at (inl rose) = absurd (calm rose)
       at (inr e) = told_missing before.files (unread_missing before.files e)
-  source_says WriteFault h calm = more before.files (λ fs e. unwritten h.0 (done_by (answer words fs) (Some (target, made h.1.0)) [] e)) (told_says (code h.1.0) h.1.1)
-  source_says OutFault h calm = absurd h.1
-  source_says NoMemory h calm = always before.files
+  source_says (Err refusal.Unwritten) h calm = more before.files (λ fs e. unwritten h.0 (done_by (answer words fs) (Some (target, made h.1.0)) [] e)) (told_says (code h.1.0) h.1.1)
+  source_says (Err refusal.NoMemory) h calm = always before.files
     where
       always : (files : Option Files) → IfTold files (λ fs. Says (answer words fs) before after NoMemory)
       always None = tt
       always (Some fs) = memory
-  source_says NotEnabled h calm = absurd h.1
 
 -- where no call failed, the status is the answer's, unless memory ran out
 status_said : (a : Answer) (before after : Stored) (status : Status) → NothingFailed before after → Says a before after status → (status ≡ NoMemory) ⊎ (status ≡ status_of a)
@@ -117,10 +127,10 @@ status_said a before after status calm (same e) = inr e
 status_said a before after WriteFault calm (unwritten rose d) = absurd (calm.writing rose)
 status_said a before after NoMemory calm memory = inl refl
 
-fault_said : (a : Answer) (before after : Stored) (status : Status) (file : List ℕ) → a ≡ fault file → Says a before after status → (status ≡ NoMemory) ⊎ (status ≡ Fault)
-fault_said a before after status file e (same s) = inr (s ∙ ap status_of e)
-fault_said a before after WriteFault file e (unwritten rose d) = absurd (subst IsDone e d)
-fault_said a before after NoMemory file e memory = inl refl
+fault_said : (a : Answer) (before after : Stored) (status : Status) (file : List ℕ) (first : Fault) → a ≡ fault file first → Says a before after status → (status ≡ NoMemory) ⊎ (status ≡ kind.Fault)
+fault_said a before after status file first e (same s) = inr (s ∙ ap status_of e)
+fault_said a before after WriteFault file first e (unwritten rose d) = absurd (subst IsDone e d)
+fault_said a before after NoMemory file first e memory = inl refl
 
 limit_said : (a : Answer) (before after : Stored) (status : Status) (word : List ℕ) (count : ℕ) → a ≡ limit word count → Says a before after status → (status ≡ NoMemory) ⊎ (status ≡ Limit)
 limit_said a before after status word count e (same s) = inr (s ∙ ap status_of e)
@@ -132,7 +142,7 @@ kept : (a : Answer) (status : Status) (fs : Files) → status ≢ Done → statu
 kept (done (Some file) printed) Done fs n m = absurd (n refl)
 kept (done (Some file) printed) WriteFault fs n m = absurd (m refl)
 kept (done (Some file) printed) NoMemory fs n m = part-same file.0 file.1 fs fs (λ name. refl)
-kept (done (Some file) printed) Fault fs n m = λ name. refl
+kept (done (Some file) printed) kind.Fault fs n m = λ name. refl
 kept (done (Some file) printed) Usage fs n m = λ name. refl
 kept (done (Some file) printed) Limit fs n m = λ name. refl
 kept (done (Some file) printed) ReadFault fs n m = λ name. refl
@@ -141,7 +151,7 @@ kept (done (Some file) printed) NotEnabled fs n m = λ name. refl
 kept (done None printed) status fs n m = λ name. refl
 kept usage status fs n m = λ name. refl
 kept (unread file) status fs n m = λ name. refl
-kept (fault file) status fs n m = λ name. refl
+kept (fault file first) status fs n m = λ name. refl
 kept (limit word count) status fs n m = λ name. refl
 
 kept_told : (words : List (List ℕ)) (status : Status) (old new : Option Files) → new ≡ old → status ≢ Done → status ≢ WriteFault → IfTold old (λ fs. Told old new (FilesAfter (answer words fs) status))
@@ -155,64 +165,64 @@ put_told words target bytes status P None new f t e = tt
 put_told words target bytes status P (Some fs) new f t e =
     subst (λ a. Told (Some fs) new (FilesAfter a status)) (sym e) (told-weaker (Some fs) new f t)
 
-source_files : (words : List (List ℕ)) (source target : List ℕ) (made : List ℕ → List ℕ) → AsksFor words source target made → (before after : Stored) (status : Status) → SourceEnds source target made before after status → IfTold before.files (λ fs. Told before.files after.files (FilesAfter (answer words fs) status))
+source_files : {T : Type 0} (words : List (List ℕ)) (source target : List ℕ) (made : List ℕ → List ℕ) → AsksFor words source target made → (before after : Stored) (ended : Result T Refusal) → SourceEnds source target made before after ended → IfTold before.files (λ fs. Told before.files after.files (FilesAfter (answer words fs) (end_status ended)))
 unfolding SourceEnds
-source_files words source target made asks before after Done h =
+source_files words source target made asks before after (Ok x) h =
     put_told words target (made h.1.0) Done (Holds target (made h.1.0)) before.files after.files (λ fs gs p. p) h.1.2 (told_says words source target made asks before after (code h.1.0) h.1.1)
-source_files words source target made asks before after Fault h = kept_told words Fault before.files after.files h.0 (λ e. cc) (λ e. cc)
-source_files words source target made asks before after Usage h = absurd h.1
-source_files words source target made asks before after Limit h = kept_told words Limit before.files after.files h.0 (λ e. cc) (λ e. cc)
-source_files words source target made asks before after ReadFault h = kept_told words ReadFault before.files after.files h.0 (λ e. cc) (λ e. cc)
-source_files words source target made asks before after WriteFault h =
+source_files words source target made asks before after (Err (refusal.Fault first)) h = kept_told words kind.Fault before.files after.files h.0 (λ e. cc) (λ e. cc)
+source_files words source target made asks before after (Err refusal.LongFile) h = kept_told words Limit before.files after.files h.0 (λ e. cc) (λ e. cc)
+source_files words source target made asks before after (Err (refusal.MuchCode count)) h = kept_told words Limit before.files after.files h.0 (λ e. cc) (λ e. cc)
+source_files words source target made asks before after (Err refusal.Unread) h = kept_told words ReadFault before.files after.files h.0 (λ e. cc) (λ e. cc)
+source_files words source target made asks before after (Err refusal.Unwritten) h =
     put_told words target (made h.1.0) WriteFault (HoldsPart target (made h.1.0)) before.files after.files (λ fs gs p. p) h.1.2 (told_says words source target made asks before after (code h.1.0) h.1.1)
-source_files words source target made asks before after OutFault h = absurd h.1
-source_files words source target made asks before after NoMemory (inl e) = kept_told words NoMemory before.files after.files e (λ e. cc) (λ e. cc)
-source_files words source target made asks before after NoMemory (inr h) =
+source_files words source target made asks before after (Err refusal.NoMemory) (inl e) = kept_told words NoMemory before.files after.files e (λ e. cc) (λ e. cc)
+source_files words source target made asks before after (Err refusal.NoMemory) (inr h) =
     put_told words target (made h.0) NoMemory (HoldsPart target (made h.0)) before.files after.files (λ fs gs p. p) h.2 (told_says words source target made asks before after (code h.0) h.1)
-source_files words source target made asks before after NotEnabled h = absurd h.1
 
-source_closed : (source target : List ℕ) (made : List ℕ → List ℕ) (before after : Stored) (status : Status) → SourceEnds source target made before after status → status ≡ Done → after.opened ≡ None
+source_closed : {T : Type 0} (source target : List ℕ) (made : List ℕ → List ℕ) (before after : Stored) (ended : Result T Refusal) → SourceEnds source target made before after ended → end_status ended ≡ Done → after.opened ≡ None
 unfolding SourceEnds
-source_closed source target made before after Done h e = h.0
-source_closed source target made before after Fault h e = absurd cc
-source_closed source target made before after Usage h e = absurd cc
-source_closed source target made before after Limit h e = absurd cc
-source_closed source target made before after ReadFault h e = absurd cc
-source_closed source target made before after WriteFault h e = absurd cc
-source_closed source target made before after OutFault h e = absurd cc
-source_closed source target made before after NoMemory h e = absurd cc
-source_closed source target made before after NotEnabled h e = absurd cc
+source_closed source target made before after (Ok x) h e = h.0
+source_closed source target made before after (Err (refusal.Fault first)) h e = absurd cc
+source_closed source target made before after (Err refusal.LongFile) h e = absurd cc
+source_closed source target made before after (Err (refusal.MuchCode count)) h e = absurd cc
+source_closed source target made before after (Err refusal.Unread) h e = absurd cc
+source_closed source target made before after (Err refusal.Unwritten) h e = absurd cc
+source_closed source target made before after (Err refusal.NoMemory) h e = absurd cc
 
 -- what the clauses of `run` say, of any command
-module _ (words : List (List ℕ)) (before after : Stored) (status : Status) where
+module _ {T : Type 0} (words : List (List ℕ)) (before after : Stored) (ended : Result T Refusal) where
   by_asked : (what : Option Asked) → what ≡ asked words → (files : Files) → answer words files ≡ answer_to what files
   by_asked what asks files = ap (λ w. answer_to w files) (sym asks)
 
-  pub ends_cause : (what : Asked) → Some what ≡ asked words → Ends what before after status → Cause words before after status
-  ends_cause (flat source target) asks h = source_cause words source target (λ bytes. bytes) (by_asked (Some (flat source target)) asks) before after status h
-  ends_cause (one source target link) asks h = source_cause words source target (boot_stream link) (by_asked (Some (one source target link)) asks) before after status h
+  pub ends_cause : (what : Asked) → Some what ≡ asked words → Ends what before after ended → Cause words before after (end_status ended)
+  ends_cause (flat source target) asks h = source_cause words source target (λ bytes. bytes) (by_asked (Some (flat source target)) asks) before after ended h
+  ends_cause (one source target link) asks h = source_cause words source target (boot_stream link) (by_asked (Some (one source target link)) asks) before after ended h
 
-  says : (what : Asked) → Some what ≡ asked words → Ends what before after status → (Rose before.read_faults after.read_faults → ⊥) → IfTold before.files (λ fs. Says (answer words fs) before after status)
-  says (flat source target) asks h calm = source_says words source target (λ bytes. bytes) (by_asked (Some (flat source target)) asks) before after status h calm
-  says (one source target link) asks h calm = source_says words source target (boot_stream link) (by_asked (Some (one source target link)) asks) before after status h calm
+  says : (what : Asked) → Some what ≡ asked words → Ends what before after ended → (Rose before.read_faults after.read_faults → ⊥) → IfTold before.files (λ fs. Says (answer words fs) before after (end_status ended))
+  says (flat source target) asks h calm = source_says words source target (λ bytes. bytes) (by_asked (Some (flat source target)) asks) before after ended h calm
+  says (one source target link) asks h calm = source_says words source target (boot_stream link) (by_asked (Some (one source target link)) asks) before after ended h calm
 
   told_more : {P Q : Files → Type 0} (files : Option Files) → ((fs : Files) → P fs → Q fs) → IfTold files P → IfTold files Q
   told_more None f h = tt
   told_more (Some fs) f h = f fs h
 
-  pub ends_status : (what : Asked) → Some what ≡ asked words → Ends what before after status → NothingFailed before after → IfTold before.files (λ fs. (status ≡ NoMemory) ⊎ (status ≡ status_of (answer words fs)))
-  ends_status what asks h calm = told_more before.files (λ fs s. status_said (answer words fs) before after status calm s) (says what asks h calm.reading)
+  pub ends_status : (what : Asked) → Some what ≡ asked words → Ends what before after ended → NothingFailed before after → IfTold before.files (λ fs. (end_status ended ≡ NoMemory) ⊎ (end_status ended ≡ status_of (answer words fs)))
+  ends_status what asks h calm = told_more before.files (λ fs s. status_said (answer words fs) before after (end_status ended) calm s) (says what asks h calm.reading)
 
-  pub ends_fault : (what : Asked) → Some what ≡ asked words → Ends what before after status → (Rose before.read_faults after.read_faults → ⊥) → IfTold before.files (λ fs. (file : List ℕ) → answer words fs ≡ fault file → (status ≡ NoMemory) ⊎ (status ≡ Fault))
-  ends_fault what asks h calm = told_more before.files (λ fs s file e. fault_said (answer words fs) before after status file e s) (says what asks h calm)
+  pub ends_fault : (what : Asked) → Some what ≡ asked words → Ends what before after ended → (Rose before.read_faults after.read_faults → ⊥) → IfTold before.files (λ fs. (file : List ℕ) (first : Fault) → answer words fs ≡ fault file first → (end_status ended ≡ NoMemory) ⊎ (end_status ended ≡ kind.Fault))
+  ends_fault what asks h calm = told_more before.files (λ fs s file first e. fault_said (answer words fs) before after (end_status ended) file first e s) (says what asks h calm)
 
-  pub ends_limit : (what : Asked) → Some what ≡ asked words → Ends what before after status → (Rose before.read_faults after.read_faults → ⊥) → IfTold before.files (λ fs. (word : List ℕ) (count : ℕ) → answer words fs ≡ limit word count → (status ≡ NoMemory) ⊎ (status ≡ Limit))
-  ends_limit what asks h calm = told_more before.files (λ fs s word count e. limit_said (answer words fs) before after status word count e s) (says what asks h calm)
+  pub ends_limit : (what : Asked) → Some what ≡ asked words → Ends what before after ended → (Rose before.read_faults after.read_faults → ⊥) → IfTold before.files (λ fs. (word : List ℕ) (count : ℕ) → answer words fs ≡ limit word count → (end_status ended ≡ NoMemory) ⊎ (end_status ended ≡ Limit))
+  ends_limit what asks h calm = told_more before.files (λ fs s word count e. limit_said (answer words fs) before after (end_status ended) word count e s) (says what asks h calm)
 
-  pub ends_files : (what : Asked) → Some what ≡ asked words → Ends what before after status → IfTold before.files (λ fs. Told before.files after.files (FilesAfter (answer words fs) status))
-  ends_files (flat source target) asks h = source_files words source target (λ bytes. bytes) (by_asked (Some (flat source target)) asks) before after status h
-  ends_files (one source target link) asks h = source_files words source target (boot_stream link) (by_asked (Some (one source target link)) asks) before after status h
+  pub ends_files : (what : Asked) → Some what ≡ asked words → Ends what before after ended → IfTold before.files (λ fs. Told before.files after.files (FilesAfter (answer words fs) (end_status ended)))
+  ends_files (flat source target) asks h = source_files words source target (λ bytes. bytes) (by_asked (Some (flat source target)) asks) before after ended h
+  ends_files (one source target link) asks h = source_files words source target (boot_stream link) (by_asked (Some (one source target link)) asks) before after ended h
 
-  pub ends_closed : (what : Asked) → Ends what before after status → status ≡ Done → after.opened ≡ None
-  ends_closed (flat source target) h e = source_closed source target (λ bytes. bytes) before after status h e
-  ends_closed (one source target link) h e = source_closed source target (boot_stream link) before after status h e
+  pub ends_closed : (what : Asked) → Ends what before after ended → end_status ended ≡ Done → after.opened ≡ None
+  ends_closed (flat source target) h e = source_closed source target (λ bytes. bytes) before after ended h e
+  ends_closed (one source target link) h e = source_closed source target (boot_stream link) before after ended h e
+
+  pub ends_line : (what : Asked) → Some what ≡ asked words → Ends what before after ended → IsLine words before after (end_status ended) (end_line (source_of what) (target_of what) ended)
+  ends_line (flat source target) asks h = source_line words source target (λ bytes. bytes) (by_asked (Some (flat source target)) asks) before after ended h
+  ends_line (one source target link) asks h = source_line words source target (boot_stream link) (by_asked (Some (one source target link)) asks) before after ended h

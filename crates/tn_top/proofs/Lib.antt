@@ -1,6 +1,5 @@
 pub mod Puts
-pub mod Numbers
-pub mod FlatLines
+pub mod ErrLines
 pub mod SourceSteps
 pub mod Causes
 pub mod Emitted

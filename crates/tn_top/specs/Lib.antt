@@ -5,4 +5,5 @@ pub mod OneProcessor
 pub mod Answers
 pub mod Outcomes
 pub mod Sources
-pub mod Instructions
+pub mod Refusals
+pub mod ErrLines

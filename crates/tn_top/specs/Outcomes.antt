@@ -5,7 +5,9 @@ use Rattle.tn_io.specs.Faults.{Rose}
 use Rattle.tn_io.specs.FileLists.{Files, held}
 use Rattle.tn_io.specs.Stores.{Stored}
 use Rattle.tn_top.specs.declared.statuses.Status.{Status}
-use Rattle.tn_top.specs.declared.statuses.Status.TheVariants.{Done, Fault, Usage, Limit, ReadFault, WriteFault, OutFault, NoMemory, NotEnabled}
+use Rattle.tn_top.specs.declared.statuses.Status.TheVariants as status
+use Rattle.tn_top.specs.declared.statuses.Status.TheVariants.{Done, Usage, Limit, ReadFault, WriteFault, OutFault, NoMemory, NotEnabled}
+use Rattle.tn_text.specs.declared.faults.Fault.{Fault}
 use Rattle.tn_top.specs.Words.{asked}
 use Rattle.tn_top.specs.Answers.{Answer, unread, fault, limit, done, answer}
 
@@ -55,7 +57,7 @@ CannotRead words before after file =
 -- What has to have happened where a command ends with a status: a row for each.
 abbrev pub Cause : List (List ℕ) → Stored → Stored → Status → Type 0
 Cause words before after Done = IfTold before.files (λ files. IsDone (answer words files))
-Cause words before after Fault = IfTold before.files (λ files. (file : List ℕ) × (answer words files ≡ fault file))
+Cause words before after status.Fault = IfTold before.files (λ files. (file : List ℕ) × (first : Fault) × (answer words files ≡ fault file first))
 Cause words before after Usage = asked words ≡ None
 Cause words before after Limit = IfTold before.files (λ files. (word : List ℕ) × (count : ℕ) × (answer words files ≡ limit word count))
 Cause words before after ReadFault = (file : List ℕ) × CannotRead words before after file

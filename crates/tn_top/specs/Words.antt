@@ -1,7 +1,8 @@
 -- The words of a command line.
-use Rattle.std.specs.Prelude.{ℕ, ◌-◌, ◌<◌, ◌≤◌, Bool, false, not, ◌&&◌, ◌==◌, nat_le, List, [], ◌∷◌, length, Option, Some, None, codes, if◌then◌else◌}
+use Rattle.std.specs.Prelude.{ℕ, ◌-◌, ◌<◌, Bool, IsTrue, false, not, ◌&&◌, ◌==◌, nat_le, List, [], ◌∷◌, length, Option, Some, None, codes, if◌then◌else◌}
 use Rattle.std.specs.Option.{option_map}
 use Rattle.std.specs.Str.{bytes_eq}
+use Rattle.tn_text.specs.FileNames.{is_file_name}
 use Rattle.tn_top.specs.declared.words.Command.{Command}
 use Rattle.tn_top.specs.declared.words.Command.TheVariants.{Flat, One}
 
@@ -41,7 +42,16 @@ asked (command ∷ source ∷ target ∷ []) = flat_asked command source target
 asked (command ∷ source ∷ target ∷ link ∷ []) = one_asked command source target link
 asked _ = None
 
--- the files of a command have names of at most 255 bytes, and a link is below 4
-abbrev pub IsWithin : Command → Type 0
-IsWithin (Flat source target) = (length source.now ≤ 255) × (length target.now ≤ 255)
-IsWithin (One source target link) = (length source.now ≤ 255) × (length target.now ≤ 255) × (link < 4)
+-- the files of a command
+abbrev pub source_of : Asked → List ℕ
+source_of (flat source target) = source
+source_of (one source target link) = source
+
+abbrev pub target_of : Asked → List ℕ
+target_of (flat source target) = target
+target_of (one source target link) = target
+
+-- the files of a command have names of 1 to 255 bytes, and a link is below 4
+abbrev pub IsWithin : Asked → Type 0
+IsWithin (flat source target) = IsTrue (is_file_name source) × IsTrue (is_file_name target)
+IsWithin (one source target link) = IsTrue (is_file_name source) × IsTrue (is_file_name target) × (link < 4)

@@ -1,17 +1,24 @@
-ghost use Rattle.std.specs.Prelude.{◌≡◌, ◌<◌, ◌≤◌, ◌⊎◌, ℕ, List, map, length, vec_len, Some, None, IfOk, IfErr, string_bytes};
+ghost use Rattle.std.specs.Prelude.{◌≡◌, ◌<◌, ◌≤◌, ◌⊎◌, ℕ, List, map, length, vec_len, Some, None, IfOk, IfErr, string_bytes, IsTrue};
 ghost use Rattle.tn_io.specs.Faults.{Rose};
-ghost use Rattle.tn_top.specs.Words.{asked, seen, IsWithin};
+ghost use Rattle.tn_text.specs.declared.faults.Fault.{Fault};
+ghost use Rattle.tn_text.specs.FileNames.{is_file_name};
+ghost use Rattle.tn_top.specs.Words.{asked, seen, source_of, target_of, IsWithin};
 ghost use Rattle.tn_top.specs.Answers.{answer, status_of, coded, fault, limit, code};
+ghost use Rattle.tn_top.specs.Refusals.{end_status, end_line};
+ghost use Rattle.tn_top.specs.ErrLines.{Tells, IsLine};
 ghost use Rattle.tn_top.specs.Outcomes.{Told, IfTold, Cause, NothingFailed, FilesAfter};
 ghost use Rattle.tn_top.specs.OneProcessor.{boot_stream};
 ghost use Rattle.tn_top.specs.Sources.{IsCodeOf, IsRefusal, IsNoCode, SourceEnds, Ends};
 
+use crate::err_lines::{tell, tell_usage};
 use crate::files::put_file;
-use crate::flat_source::{FlatFault, code_of, read_flat};
+use crate::flat_source::code_of;
 use crate::one_processor::put_code_stream;
+use crate::refusals::{Refusal, refusal_of};
 use crate::statuses::Status;
 use crate::words::{Command, command_of};
 use std::alloc::{AllocError, Global};
+use tn_asm::read_flat;
 use tn_io::{GetFault, Out, PutFault, Store};
 
 /// The most bytes that a file may have.
@@ -39,7 +46,7 @@ pub fn run<S: Store, O: Out>(
     // they are the answer and no read failed, unless memory ran out.
     ensures usage { asked (map string_bytes words.now) ≡ None → result ≡ Status.Usage }
     ensures fault { (Rose (S.stored store.old).read_faults (S.stored store.new).read_faults → ⊥)
-        → IfTold (S.stored store.old).files (λ files. (file : List ℕ) → answer (map string_bytes words.now) files ≡ fault file → (result ≡ Status.NoMemory) ⊎ (result ≡ Status.Fault)) }
+        → IfTold (S.stored store.old).files (λ files. (file : List ℕ) (first : Fault) → answer (map string_bytes words.now) files ≡ fault file first → (result ≡ Status.NoMemory) ⊎ (result ≡ Status.Fault)) }
     ensures limit { (Rose (S.stored store.old).read_faults (S.stored store.new).read_faults → ⊥)
         → IfTold (S.stored store.old).files (λ files. (word : List ℕ) (count : ℕ) → answer (map string_bytes words.now) files ≡ limit word count → (result ≡ Status.NoMemory) ⊎ (result ≡ Status.Limit)) }
 
@@ -47,21 +54,43 @@ pub fn run<S: Store, O: Out>(
     ensures files { IfTold (S.stored store.old).files (λ files. Told (S.stored store.old).files (S.stored store.new).files (FilesAfter (answer (map string_bytes words.now) files) result)) }
     ensures closed { result ≡ Status.Done → (S.stored store.new).opened ≡ None }
 
-    // Nothing is printed.
+    // Nothing is printed, and what is told on the error output is the line of the status.
     ensures print { O.printed out.new ≡ O.printed out.old }
-    ensures err { O.printed err.new ≡ O.printed err.old }
+    ensures err { (line : List ℕ) × IsLine (map string_bytes words.now) (S.stored store.old) (S.stored store.new) result line × Tells line (O.printed err.old) (O.printed err.new) }
     ensures out_goes_on { O.goes_on out.old out.new }
     ensures err_goes_on { O.goes_on err.old err.new }
 {
     match command_of(words) {
-        Some(command) => perform(alloc, command, store),
-        None => Status::Usage,
+        Some(command) => {
+            let (source, target) = command.files();
+            end(perform(alloc, command, store), source, target, err)
+        }
+        None => {
+            tell_usage(err);
+            Status::Usage
+        }
+    }
+}
+
+/// Tells how a command ended, unless it was done, and gives its status.
+fn end<O: Out>(ended: Result<(), Refusal>, source: &str, target: &str, err: &mut O) -> Status
+    requires { IsTrue (is_file_name source.now) }
+    ensures status { result ≡ end_status ended }
+    ensures told { Tells (end_line source.now target.now ended) (O.printed err.old) (O.printed err.new) }
+    ensures goes_on { O.goes_on err.old err.new }
+{
+    match &ended {
+        Ok(()) => Status::Done,
+        Err(refusal) => {
+            tell(refusal, source, target, err);
+            refusal.status()
+        }
     }
 }
 
 /// Does what a command asks for.
-fn perform<S: Store>(alloc: Global, command: Command<'_>, store: &mut S) -> Status
-    requires { IsWithin command }
+fn perform<S: Store>(alloc: Global, command: Command<'_>, store: &mut S) -> Result<(), Refusal>
+    requires { IsWithin (seen command) }
     ensures { Ends (seen command.entry) (S.stored store.old) (S.stored store.new) result }
 {
     match command {
@@ -75,25 +104,31 @@ fn perform<S: Store>(alloc: Global, command: Command<'_>, store: &mut S) -> Stat
 }
 
 /// Turns the flat source in one file into the code bytes in another.
-fn flat<S: Store>(alloc: Global, source: &str, target: &str, store: &mut S) -> Status
+fn flat<S: Store>(alloc: Global, source: &str, target: &str, store: &mut S) -> Result<(), Refusal>
     requires source { length source.now ≤ 255 }
     requires target { length target.now ≤ 255 }
     ensures { SourceEnds source.now target.now (λ bytes. bytes) (S.stored store.old) (S.stored store.new) result }
 {
     let code = match flat_code(alloc, source, store) {
         Ok(code) => code,
-        Err(status) => return status,
+        Err(refusal) => return Err(refusal),
     };
     match put_file(store, target, &code) {
-        Ok(()) => Status::Done,
-        Err(PutFault::Failed) => Status::WriteFault,
-        Err(PutFault::NoMemory) => Status::NoMemory,
+        Ok(()) => Ok(()),
+        Err(PutFault::Failed) => Err(Refusal::Unwritten),
+        Err(PutFault::NoMemory) => Err(Refusal::NoMemory),
     }
 }
 
 /// Turns the flat source in one file into the stream, in another, that boots one processor by a
 /// link and runs the code.
-fn one<S: Store>(alloc: Global, source: &str, target: &str, link: u8, store: &mut S) -> Status
+fn one<S: Store>(
+    alloc: Global,
+    source: &str,
+    target: &str,
+    link: u8,
+    store: &mut S,
+) -> Result<(), Refusal>
     requires source { length source.now ≤ 255 }
     requires target { length target.now ≤ 255 }
     requires link { link < 4 }
@@ -101,17 +136,17 @@ fn one<S: Store>(alloc: Global, source: &str, target: &str, link: u8, store: &mu
 {
     let code = match flat_code(alloc, source, store) {
         Ok(code) => code,
-        Err(status) => return status,
+        Err(refusal) => return Err(refusal),
     };
     match put_code_stream(alloc, store, target, link, code) {
-        Ok(()) => Status::Done,
-        Err(PutFault::Failed) => Status::WriteFault,
-        Err(PutFault::NoMemory) => Status::NoMemory,
+        Ok(()) => Ok(()),
+        Err(PutFault::Failed) => Err(Refusal::Unwritten),
+        Err(PutFault::NoMemory) => Err(Refusal::NoMemory),
     }
 }
 
 /// The code bytes of the flat source in a file.
-fn flat_code<S: Store>(alloc: Global, source: &str, store: &mut S) -> Result<Vec<u8>, Status>
+fn flat_code<S: Store>(alloc: Global, source: &str, store: &mut S) -> Result<Vec<u8>, Refusal>
     requires { length source.now ≤ 255 }
     ensures ok { IfOk result (λ bytes. IsCodeOf source.now (S.stored store.old) bytes.items) }
     ensures within { IfOk result (λ bytes. vec_len bytes ≤ 262144) }
@@ -121,14 +156,14 @@ fn flat_code<S: Store>(alloc: Global, source: &str, store: &mut S) -> Result<Vec
     let mut text = Vec::new(alloc);
     match store.get(source, FILE_LIMIT, &mut text) {
         Ok(()) => code_of_text(alloc, &text),
-        Err(GetFault::Failed) => Err(Status::ReadFault),
-        Err(GetFault::TooLong(_)) => Err(Status::Limit),
-        Err(GetFault::NoMemory) => Err(Status::NoMemory),
+        Err(GetFault::Failed) => Err(Refusal::Unread),
+        Err(GetFault::TooLong(_)) => Err(Refusal::LongFile),
+        Err(GetFault::NoMemory) => Err(Refusal::NoMemory),
     }
 }
 
 /// The code bytes of a text.
-fn code_of_text(alloc: Global, text: &[u8]) -> Result<Vec<u8>, Status>
+fn code_of_text(alloc: Global, text: &[u8]) -> Result<Vec<u8>, Refusal>
     requires { length text.now ≤ 1048576 }
     ensures ok { IfOk result (λ bytes. coded (Some text.now) ≡ code bytes.items) }
     ensures within { IfOk result (λ bytes. vec_len bytes ≤ 262144) }
@@ -136,12 +171,11 @@ fn code_of_text(alloc: Global, text: &[u8]) -> Result<Vec<u8>, Status>
 {
     let instructions = match read_flat(alloc, text) {
         Ok(instructions) => instructions,
-        Err(FlatFault::NotPlain) => return Err(Status::Fault),
-        Err(FlatFault::NoMemory) => return Err(Status::NoMemory),
+        Err(fault) => return Err(refusal_of(fault)),
     };
     match code_of(alloc, &instructions) {
-        Ok(code) if code.len() > CODE_LIMIT => Err(Status::Limit),
+        Ok(code) if code.len() > CODE_LIMIT => Err(Refusal::MuchCode(code.len() as u64)),
         Ok(code) => Ok(code),
-        Err(AllocError) => Err(Status::NoMemory),
+        Err(AllocError) => Err(Refusal::NoMemory),
     }
 }

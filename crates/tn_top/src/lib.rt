@@ -2,10 +2,11 @@
 #![tactic(auto)]
 
 mod commands;
+mod err_lines;
 mod files;
 mod flat_source;
-mod instructions;
 mod one_processor;
+mod refusals;
 mod statuses;
 mod words;
 

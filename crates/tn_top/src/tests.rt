@@ -26,7 +26,8 @@ fn one_file(alloc: Global, name: &str, bytes: &[u8]) -> Result<Vec<(FileText, Ve
 struct Ended {
     status: Status,
     store: MemStore,
-    printed: bool,
+    out: MemOut,
+    err: MemOut,
 }
 
 /// Runs words over a store with the file `in.txt`, of which one call may fail.
@@ -48,20 +49,35 @@ fn run_on(
     let mut out = MemOut::new(Vec::new(alloc));
     let mut err = MemOut::new(Vec::new(alloc));
     let status = run(alloc, &owned, &mut store, &mut out, &mut err);
-    let printed = !out.bytes().is_empty() || !err.bytes().is_empty();
     Ok(Ended {
         status,
         store,
-        printed,
+        out,
+        err,
     })
 }
 
-/// Compares how a command ended, and what `out.bin` then holds, with what was wanted.
-fn expect(rt: &impl Abort, ended: &Ended, status: Status, file: Option<&[u8]>, case: &str) {
+/// Compares how a command ended, what `out.bin` then holds, and what was told, with what was
+/// wanted.
+fn expect(
+    rt: &impl Abort,
+    ended: &Ended,
+    status: Status,
+    file: Option<&[u8]>,
+    told: &[u8],
+    case: &str,
+) {
     assert_eq!(rt; ended.status, status, "{case}");
     assert!(rt; ended.store.file("out.bin") == file, "{case}");
-    assert!(rt; !ended.printed, "{case}");
+    assert!(rt; ended.err.bytes() == told, "{case}");
+    assert!(rt; ended.out.bytes().is_empty(), "{case}");
 }
+
+const UNREAD: &[u8] = b"cannot read in.txt\n";
+
+const UNWRITTEN: &[u8] = b"cannot write out.bin\n";
+
+const USAGE: &[u8] = b"usage: tn flat, one, asm, lib, build, list, tree, replay or grid\n";
 
 const FLAT: [&str; 3] = ["flat", "in.txt", "out.bin"];
 
@@ -84,34 +100,43 @@ const STREAM: [u8; 157] = [
 
 #[test]
 fn flat_sources_give_their_code(rt: HostRuntime) -> Result<(), Fail> {
-    let table: [(&[u8], Status, Option<&[u8]>); 14] = [
-        (b"", Status::Done, Some(b"")),
-        (
-            b"ldc 5\nstl 1\nj -2\n",
-            Status::Done,
-            Some(b"\x45\xD1\x60\x0E"),
-        ),
+    let table: [(&[u8], &[u8]); 6] = [
+        (b"", b""),
+        (b"\n ; nothing\n", b""),
+        (b"ldc 5\nstl 1\nj -2\n", b"\x45\xD1\x60\x0E"),
         (
             b"ldc -2147483648\nldc 2147483647\nldc 0016\nldc -0\n",
-            Status::Done,
-            Some(b"\x27\x2F\x2F\x2F\x2F\x2F\x6F\x40\x27\x2F\x2F\x2F\x2F\x2F\x2F\x4F\x21\x40\x40"),
+            b"\x27\x2F\x2F\x2F\x2F\x2F\x6F\x40\x27\x2F\x2F\x2F\x2F\x2F\x2F\x4F\x21\x40\x40",
         ),
-        (b"ldc 5x\n", Status::Fault, None),
-        (b"ldc 5", Status::Fault, None),
-        (b"ldc  5\n", Status::Fault, None),
-        (b"\n", Status::Fault, None),
-        (b"ldc\n", Status::Fault, None),
-        (b"ldc +5\n", Status::Fault, None),
-        (b"ldc -\n", Status::Fault, None),
-        (b"ldc 2147483648\n", Status::Fault, None),
-        (b"ldc -2147483649\n", Status::Fault, None),
-        (b"ldc 00000000001\n", Status::Fault, None),
-        (b"pfix 1\n", Status::Fault, None),
+        (b"ldc  #10;c\r\n\tadd\nmint", b"\x21\x40\xF5\x24\xF2"),
+        (b"ldc #FFFFFFFF\n", b"\x60\x4F"),
     ];
-    for (source, status, file) in table {
+    for (source, code) in table {
         let ended = run_on(rt.alloc(), &FLAT, source, None)?;
         let case = String::from_utf8_lossy(rt.alloc(), source)?;
-        expect(&rt, &ended, status, file, case.as_str());
+        expect(&rt, &ended, Status::Done, Some(code), b"", case.as_str());
+    }
+    Ok(())
+}
+
+#[test]
+fn the_first_fault_is_told(rt: HostRuntime) -> Result<(), Fail> {
+    let table: [(&[u8], &[u8]); 10] = [
+        (b"ldc 5x\n", b"in.txt:1: BadNumber\n"),
+        (b"ldc\n", b"in.txt:1: BadLine\n"),
+        (b"\nldc +5\n", b"in.txt:2: BadNumber\n"),
+        (b"ldc -", b"in.txt:1: BadNumber\n"),
+        (b"ldc 2147483648\n", b"in.txt:1: BadNumber\n"),
+        (b"ldc -2147483649\n", b"in.txt:1: BadNumber\n"),
+        (b"ldc 00000000001\n", b"in.txt:1: BadNumber\n"),
+        (b"pfix 1\nldc\x80\n", b"in.txt:1: BadLine\n"),
+        (b"add\nadd 1x\n", b"in.txt:2: BadLine\n"),
+        (b"add\n\n\nldc x ;\x80\nldc\n", b"in.txt:4: NotAscii\n"),
+    ];
+    for (source, told) in table {
+        let ended = run_on(rt.alloc(), &FLAT, source, None)?;
+        let case = String::from_utf8_lossy(rt.alloc(), source)?;
+        expect(&rt, &ended, Status::Fault, None, told, case.as_str());
     }
     Ok(())
 }
@@ -134,10 +159,11 @@ fn words_that_spell_no_command_are_usage(rt: HostRuntime) -> Result<(), Fail> {
     ];
     for words in table {
         let ended = run_on(rt.alloc(), words, b"ldc 5\n", None)?;
-        expect(&rt, &ended, Status::Usage, None, "usage");
+        expect(&rt, &ended, Status::Usage, None, USAGE, "usage");
     }
     let ended = run_on(rt.alloc(), &["flat", "none", "out.bin"], b"", None)?;
-    expect(&rt, &ended, Status::ReadFault, None, "missing");
+    let told = b"cannot read none\n";
+    expect(&rt, &ended, Status::ReadFault, None, told, "missing");
     Ok(())
 }
 
@@ -145,7 +171,7 @@ fn words_that_spell_no_command_are_usage(rt: HostRuntime) -> Result<(), Fail> {
 fn one_processor_is_booted(rt: HostRuntime) -> Result<(), Fail> {
     let source: &[u8] = b"ldc 5\nstl 1\nj -2\n";
     let ended = run_on(rt.alloc(), &ONE, source, None)?;
-    expect(&rt, &ended, Status::Done, Some(&STREAM), "link 0");
+    expect(&rt, &ended, Status::Done, Some(&STREAM), b"", "link 0");
 
     // the boot link stands in three bytes
     let mut by_link_3 = STREAM;
@@ -154,26 +180,27 @@ fn one_processor_is_booted(rt: HostRuntime) -> Result<(), Fail> {
     }
     let words = ["one", "in.txt", "out.bin", "3"];
     let ended = run_on(rt.alloc(), &words, source, None)?;
-    expect(&rt, &ended, Status::Done, Some(&by_link_3), "link 3");
+    expect(&rt, &ended, Status::Done, Some(&by_link_3), b"", "link 3");
 
     // without code there is no LOAD, and the workspace lies 16 words above the entry
     let mut empty = Vec::from_slice(rt.alloc(), &STREAM[..117])?;
     empty.extend_from_slice(&STREAM[133..153])?;
     empty.extend_from_slice(&[0x40, 0x04, 0x00, 0x80])?;
     let ended = run_on(rt.alloc(), &ONE, b"", None)?;
-    expect(&rt, &ended, Status::Done, Some(&empty), "empty");
+    expect(&rt, &ended, Status::Done, Some(&empty), b"", "empty");
     assert_eq!(rt; empty.len(), 141);
 
-    let ended = run_on(rt.alloc(), &ONE, b"ldc 5", None)?;
-    expect(&rt, &ended, Status::Fault, None, "fault");
+    let ended = run_on(rt.alloc(), &ONE, b"ldc", None)?;
+    let told = b"in.txt:1: BadLine\n";
+    expect(&rt, &ended, Status::Fault, None, told, "fault");
     // get, create and the first write
-    for (call, status, file) in [
-        (0, Status::ReadFault, None),
-        (1, Status::WriteFault, None),
-        (2, Status::WriteFault, Some(b"".as_slice())),
+    for (call, status, file, told) in [
+        (0, Status::ReadFault, None, UNREAD),
+        (1, Status::WriteFault, None, UNWRITTEN),
+        (2, Status::WriteFault, Some(b"".as_slice()), UNWRITTEN),
     ] {
         let ended = run_on(rt.alloc(), &ONE, source, Some(call))?;
-        expect(&rt, &ended, status, file, "failing");
+        expect(&rt, &ended, status, file, told, "failing");
     }
     Ok(())
 }
@@ -181,16 +208,16 @@ fn one_processor_is_booted(rt: HostRuntime) -> Result<(), Fail> {
 #[test]
 fn failing_calls_are_told(rt: HostRuntime) -> Result<(), Fail> {
     // get, create, write, close, and one call more than are made
-    let table: [(u64, Status, Option<&[u8]>); 5] = [
-        (0, Status::ReadFault, None),
-        (1, Status::WriteFault, None),
-        (2, Status::WriteFault, Some(b"")),
-        (3, Status::WriteFault, Some(b"\x45")),
-        (4, Status::Done, Some(b"\x45")),
+    let table: [(u64, Status, Option<&[u8]>, &[u8]); 5] = [
+        (0, Status::ReadFault, None, UNREAD),
+        (1, Status::WriteFault, None, UNWRITTEN),
+        (2, Status::WriteFault, Some(b""), UNWRITTEN),
+        (3, Status::WriteFault, Some(b"\x45"), UNWRITTEN),
+        (4, Status::Done, Some(b"\x45"), b""),
     ];
-    for (call, status, file) in table {
+    for (call, status, file, told) in table {
         let ended = run_on(rt.alloc(), &FLAT, b"ldc 5\n", Some(call))?;
-        expect(&rt, &ended, status, file, "failing");
+        expect(&rt, &ended, status, file, told, "failing");
     }
     let statuses = [
         Status::Done,
@@ -222,7 +249,29 @@ fn a_source_of_the_greatest_size_is_read(rt: HostRuntime) -> Result<(), Fail> {
     assert!(rt; code.iter().all(|byte| *byte == 0x40));
     source.push(b'\n')?;
     let ended = run_on(rt.alloc(), &FLAT, &source, None)?;
-    expect(&rt, &ended, Status::Limit, None, "limit");
+    let told = b"limit file 1048577\n";
+    expect(&rt, &ended, Status::Limit, None, told, "limit");
+    Ok(())
+}
+
+#[test]
+fn a_failing_error_output_changes_no_status(rt: HostRuntime) -> Result<(), Fail> {
+    let mut owned = Vec::new(rt.alloc());
+    for word in FLAT {
+        owned.push(String::from_str(rt.alloc(), word)?)?;
+    }
+    let mut store = MemStore::new(
+        one_file(rt.alloc(), "in.txt", b"ldc 5x\n")?,
+        Vec::new(rt.alloc()),
+    );
+    let mut out = MemOut::new(Vec::new(rt.alloc()));
+    let mut failing = Vec::new(rt.alloc());
+    failing.push(2)?;
+    let mut err = MemOut::new(failing);
+    let status = run(rt.alloc(), &owned, &mut store, &mut out, &mut err);
+    assert_eq!(rt; status, Status::Fault);
+    assert!(rt; err.bytes() == b"in.txt:".as_slice());
+    assert!(rt; out.bytes().is_empty());
     Ok(())
 }
 
@@ -240,7 +289,8 @@ fn code_of_the_greatest_size_is_written(rt: HostRuntime) -> Result<(), Fail> {
     source.extend_from_slice(b"ldc 0\n")?;
     for words in [&FLAT[..], &ONE] {
         let ended = run_on(rt.alloc(), words, &source, None)?;
-        expect(&rt, &ended, Status::Limit, None, "limit");
+        let told = b"limit code 262145\n";
+        expect(&rt, &ended, Status::Limit, None, told, "limit");
     }
     Ok(())
 }

@@ -1,6 +1,6 @@
 use Rattle.std.proofs.Common.{◌≡◌, map, take}
+use Rattle.tn_asm.specs.Instructions.{instruction_of}
 use Rattle.tn_top.specs.FlatSource.{code_of}
-use Rattle.tn_top.specs.Instructions.{instruction_of}
 use Rattle.tn_top.proofs.flat_source.code_of.Given as goal
 
 -- the code so far is that of the instructions so far

@@ -1,0 +1,16 @@
+use Rattle.std.proofs.Common.{ap, sym, ◌∙◌, ◌++◌, codes}
+use Rattle.std.specs.Fmt.{decimal}
+use Rattle.tn_text.specs.Words.{spaced}
+use Rattle.tn_text.proofs.Putting.{Puts-as, Puts-joined, Puts-stopped, Puts-refused}
+use Rattle.tn_top.specs.Refusals.{refused_line, unread_line, unwritten_line}
+use Rattle.tn_top.proofs.err_lines.put_refusal.Goals as goal
+
+pub returns-in-Unread-clause-puts : goal.returns-in-Unread-clause-puts
+unfolding refused_line unread_line
+returns-in-Unread-clause-puts g c =
+    Puts-as (ap (λ b. codes "cannot read " ++ b ++ codes "\n") c.as_bytes.ensures.value ∙ sym (ap (refused_line c.args.source.now c.args.target.now) c.in-Unread.is)) c.put_line.ensures.puts
+
+pub returns-in-Unwritten-clause-puts : goal.returns-in-Unwritten-clause-puts
+unfolding refused_line unwritten_line
+returns-in-Unwritten-clause-puts g c =
+    Puts-as (ap (λ b. codes "cannot write " ++ b ++ codes "\n") c.as_bytes-in-Unwritten.ensures.value ∙ sym (ap (refused_line c.args.source.now c.args.target.now) c.in-Unwritten.is)) c.put_line-in-Unwritten.ensures.puts
