@@ -1,0 +1,2 @@
+pub mod PrintedOuts
+pub mod PrintedOutLaws
