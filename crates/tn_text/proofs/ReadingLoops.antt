@@ -5,8 +5,10 @@ use Rattle.std.proofs.lemmas.Bool.Decides.{nat_tests}
 use Rattle.std.specs.Str.Lines.{lines}
 use Rattle.tn_text.specs.declared.faults.Cause.{Cause}
 use Rattle.tn_text.specs.declared.faults.Fault.{Fault}
+use Rattle.tn_text.specs.declared.faults.ReadFault.{ReadFault}
+use Rattle.tn_text.specs.declared.faults.ReadFault.TheVariants as read
 use Rattle.tn_text.specs.Faults.{fault_at}
-use Rattle.tn_text.specs.Reading.{result_then, placed, read_lines, ReadsOn, said, line_tokens, token_step}
+use Rattle.tn_text.specs.Reading.{result_then, placed, read_lines, ReadsOn, said, line_tokens, token_step, Gives}
 use Rattle.tn_text.proofs.Walking.{read_line, bad_line, no_line}
 
 module _ {S A : Type 0} (step : S → List ℕ → Result S Cause) (finish : S → Result A Cause) (s : S) (n : ℕ) (rest : List ℕ) (whole : Result A Fault) (so_far : ReadsOn step finish s n rest whole) where
@@ -60,6 +62,11 @@ module _ {S A : Type 0} (step : S → List (List ℕ) → Result S Cause) (finis
       at (Err cause) is q =
           let same : fault ≡ fault_at (n + 1) cause = cc in
           ap Err same ∙ sym (reads-bad (token_step step) finish s n rest whole so_far line behind cause cut (token_step-refused step s line cause is))
+
+  -- the tokens of the line were not had, for a fault of the line or for want of memory
+  pub tokens-stopped : {T U : Type 0} (seen : T → List (List ℕ)) (gives : U → A) (why : ReadFault) → Gives seen (Err why) (placed (n + 1) (line_tokens line)) → Gives gives (Err why) whole
+  tokens-stopped seen gives (read.Fault fault) h = tokens-refused fault h
+  tokens-stopped seen gives read.NoMemory h = tt
 
   -- the line's tokens are refused
   pub tokens-bad : (words : List (List ℕ)) (cause : Cause) → Ok words ≡ placed (n + 1) (line_tokens line) → said step s words ≡ Err cause → Err (fault_at (n + 1) cause) ≡ whole
