@@ -4,3 +4,4 @@ pub mod Digits
 pub mod Walking
 pub mod Cutting
 pub mod ReadingLoops
+pub mod LineBytes

@@ -19,7 +19,7 @@ pub use file_names::{FILE_NAME_LIMIT, FileName};
 pub use lines::{is_ascii_line, next_line, tokens_of};
 pub use names::{NAME_LIMIT, Name, is_name, is_name_spelling};
 pub use numbers::{begins_number, number};
-pub use places::{name_at, number_at};
+pub use places::{file_name_at, name_at, number_at};
 pub use puts::{Put, PutRefused, put_decimal, put_spaced, put_spaced_decimal};
 pub use reading::read_tokens;
 pub use words::word_text;

@@ -2,8 +2,8 @@ ghost use Rattle.std.specs.Prelude.{None};
 
 use crate::{
     Cause, Detail, Fault, FaultCode, FileName, Lack, Name, Part, Put, PutRefused, ReadFault,
-    Region, begins_number, is_ascii_line, is_name, name_at, next_line, number, number_at,
-    put_spaced, put_spaced_decimal, tokens_of,
+    Region, begins_number, file_name_at, is_ascii_line, is_name, name_at, next_line, number,
+    number_at, put_spaced, put_spaced_decimal, read_tokens,
 };
 use std::alloc::{AllocError, Global};
 use std::collections::hash_map::DefaultHasher;
@@ -214,6 +214,11 @@ fn names_are_told_apart(rt: HostRuntime) -> Result<(), Fail> {
     assert!(rt; first.finish() == second.finish());
     let long = "0123456789abcdef0123456789abcdef0123456789abcdef0123456789abcdef";
     assert!(rt; FileName::of("").is_none());
+    let longest = [b'/'; 255];
+    let longer = [b'/'; 256];
+    assert!(rt; is_ascii_line(&longest) && is_ascii_line(&longer));
+    assert!(rt; file_name_at(&longest).is_ok());
+    assert!(rt; file_name_at(&longer).err() == Some(Cause::bare(FaultCode::NameTooLong)));
     let file = FileName::of(long).ok_or("a file")?;
     assert_eq!(rt; file.copied().text(), long);
     Ok(())
@@ -269,10 +274,10 @@ fn lines_of(alloc: Global, text: &[u8]) -> Result<Vec<u8>, AllocError> {
     Ok(lines)
 }
 
-/// The tokens of a line, each with `|` behind it.
+/// The tokens of the line 4, each with `|` behind it.
 fn tokens_joined(alloc: Global, line: &[u8]) -> Result<Vec<u8>, ReadFault> {
     let mut joined = Vec::new(alloc);
-    for token in tokens_of(alloc, line)? {
+    for token in read_tokens(alloc, line, 4)? {
         joined.extend_from_slice(token)?;
         joined.extend_from_slice(b"|")?;
     }
@@ -305,6 +310,8 @@ fn lines_and_tokens_are_cut(rt: HostRuntime) -> Result<(), Fail> {
     for (line, tokens) in lines {
         assert!(rt; tokens_joined(rt.alloc(), line)?.as_slice() == tokens);
     }
+    let refused = ReadFault::Fault(Cause::bare(FaultCode::NotAscii).at(4));
+    assert!(rt; tokens_joined(rt.alloc(), b"ldc 5 ; \xC3").err() == Some(refused));
     assert!(rt; is_ascii_line(b" ~\t") && is_ascii_line(b""));
     assert!(rt; !is_ascii_line(b"a\r") && !is_ascii_line(b"; \x7F") && !is_ascii_line(b"\x1F"));
     Ok(())
