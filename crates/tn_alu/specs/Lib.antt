@@ -1,0 +1,5 @@
+pub mod Words
+pub mod Checked
+pub mod Divisions
+pub mod Longs
+pub mod Shifts

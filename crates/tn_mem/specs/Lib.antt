@@ -1,0 +1,8 @@
+pub mod Sizes
+pub mod Spaces
+pub mod Memories
+pub mod Guards
+pub mod Tests
+pub mod Laws
+pub mod GuardLaws
+pub mod Holdings

@@ -1,0 +1,8 @@
+/// Why an access is refused.
+#[derive(Clone, Copy, Debug, PartialEq, Eq, Hash)]
+pub enum Touch {
+    /// The access is unaligned, or not wholly inside the memory above word 8.
+    Outside,
+    /// The access is inside, and meets the region that a [`CodeFree`](crate::CodeFree) guards.
+    Code,
+}
