@@ -1,1 +1,3 @@
+pub mod Finding
+pub mod OperationCodes
 pub mod Naming

@@ -1,27 +1,21 @@
--- What a word of a source names is a mnemonic with that name.
-use Rattle.std.proofs.Common.{◌≡◌, ℕ, ◌+◌, Bool, true, false, cond, List, [], ◌∷◌, Option, Some, None, Contains, IfSome, refl, arith}
-use Rattle.std.specs.List.{find}
+-- Names of instructions name them.
+use Rattle.std.proofs.Common.{◌≡◌, ◌≢◌, ℕ, Bool, true, false, List, Option, Some, None, All, Contains, IfSome, IfNone, refl, sym, ap, ◌∙◌, arith}
+use Rattle.std.specs.Bool.{◌==◌}
+use Rattle.std.specs.List.{find, list_all}
 use Rattle.std.specs.Str.{bytes_eq}
+use Rattle.std.proofs.lemmas.Bool.Decides.{nat_tests}
 use Rattle.std.proofs.lemmas.Slice.Eq.{bytes_eq-Decides}
-use Rattle.std.proofs.lemmas.Grind.{common_steps}
+use Rattle.std.proofs.lemmas.List.Sums.{AllPass-from_list_all}
+use Rattle.std.proofs.lemmas.List.Elements.{All-contains, All-weaker}
+use Rattle.tn_isa.specs.declared.functions.Fun.{Fun}
+use Rattle.tn_isa.specs.declared.functions.Fun.TheVariants.{J, Ldlp, Pfix, Ldnl, Ldc, Ldnlp, Nfix, Ldl, Adc, Call, Cj, Ajw, Eqc, Stl, Stnl, Opr}
 use Rattle.tn_isa.specs.declared.mnemonics.Mnemonic.{Mnemonic}
+use Rattle.tn_isa.specs.declared.mnemonics.Mnemonic.TheVariants.{Direct, Plain}
+use Rattle.tn_isa.specs.Functions.{code_of, function_at}
+use Rattle.tn_isa.specs.Operations.{operation_code}
 use Rattle.tn_isa.specs.Mnemonics.{mnemonics, name_of, mnemonic_named}
-
-Contains-cons : {X : Type 0} (x : X) (xs : List X) (y : X) → Contains xs y → Contains (x ∷ xs) y
-Contains-cons x xs y h = (h.0 + 1, omega arith, grind (arith, common_steps))
-
--- what find gives is in the list and passes the test
-found-find : {X : Type 0} (p : X → Bool) (xs : List X) → IfSome (find p xs) (λ x. Contains xs x × (p x ≡ true))
-found-find p [] = tt
-found-find {X} p (x ∷ xs) = at (p x) refl (found-find p xs)
-  where
-    more : (o : Option X) → IfSome o (λ y. Contains xs y × (p y ≡ true)) → IfSome o (λ y. Contains (x ∷ xs) y × (p y ≡ true))
-    more None h = tt
-    more (Some y) h = (Contains-cons x xs y h.0, h.1)
-
-    at : (b : Bool) → p x ≡ b → IfSome (find p xs) (λ y. Contains xs y × (p y ≡ true)) → IfSome (cond b (Some x) (find p xs)) (λ y. Contains (x ∷ xs) y × (p y ≡ true))
-    at true e h = ((0, omega arith, refl), e)
-    at false e h = more (find p xs) h
+use Rattle.tn_isa.proofs.Finding.{found-find, none-find}
+use Rattle.tn_isa.proofs.OperationCodes.{same_operation}
 
 -- a word that names an instruction is its name
 pub found-named : (word : List ℕ) → IfSome (mnemonic_named word) (λ m. Contains mnemonics m × (name_of m ≡ word))
@@ -32,3 +26,76 @@ found-named word =
     named : (o : Option Mnemonic) → IfSome o (λ m. Contains mnemonics m × (bytes_eq (name_of m) word ≡ true)) → IfSome o (λ m. Contains mnemonics m × (name_of m ≡ word))
     named None h = tt
     named (Some m) h = (h.0, (bytes_eq-Decides (name_of m) word).0 h.1)
+
+-- a word that names none is no instruction's name
+pub none-named : (word : List ℕ) → IfNone (mnemonic_named word) (All (λ m. name_of m ≢ word) mnemonics)
+unfolding mnemonic_named
+none-named word =
+    named (find (λ m. bytes_eq (name_of m) word) mnemonics) (none-find (λ m. bytes_eq (name_of m) word) mnemonics)
+  where
+    other : (m : Mnemonic) → bytes_eq (name_of m) word ≡ false → name_of m ≢ word
+    other m e s = let t : bytes_eq (name_of m) word ≡ true = (bytes_eq-Decides (name_of m) word).1 s in cc
+
+    named : (o : Option Mnemonic) → IfNone o (All (λ m. bytes_eq (name_of m) word ≡ false) mnemonics) → IfNone o (All (λ m. name_of m ≢ word) mnemonics)
+    named None h = All-weaker (λ m. bytes_eq (name_of m) word ≡ false) (λ m. name_of m ≢ word) other mnemonics h
+    named (Some m) h = tt
+
+-- a function's code names it
+pub function_at-code_of : (f : Fun) → function_at (code_of f) ≡ f
+function_at-code_of J = refl
+function_at-code_of Ldlp = refl
+function_at-code_of Pfix = refl
+function_at-code_of Ldnl = refl
+function_at-code_of Ldc = refl
+function_at-code_of Ldnlp = refl
+function_at-code_of Nfix = refl
+function_at-code_of Ldl = refl
+function_at-code_of Adc = refl
+function_at-code_of Call = refl
+function_at-code_of Cj = refl
+function_at-code_of Ajw = refl
+function_at-code_of Eqc = refl
+function_at-code_of Stl = refl
+function_at-code_of Stnl = refl
+function_at-code_of Opr = refl
+
+-- no two functions have one code
+pub same_function : (f g : Fun) → code_of f ≡ code_of g → f ≡ g
+same_function f g e = sym (function_at-code_of f) ∙ ap function_at e ∙ function_at-code_of g
+
+-- whether two instructions are one, by their codes
+is_same : Mnemonic → Mnemonic → Bool
+is_same (Direct f) (Direct g) = code_of f == code_of g
+is_same (Plain a) (Plain b) = operation_code a == operation_code b
+is_same (Direct f) (Plain b) = false
+is_same (Plain a) (Direct g) = false
+
+same-is_same : (m n : Mnemonic) → is_same m n ≡ true → m ≡ n
+unfolding is_same
+same-is_same (Direct f) (Direct g) e = ap Direct (same_function f g (grind (arith, nat_tests)))
+same-is_same (Plain a) (Plain b) e = ap Plain (same_operation a b (grind (arith, nat_tests)))
+same-is_same (Direct f) (Plain b) e = absurd cc
+same-is_same (Plain a) (Direct g) e = absurd cc
+
+-- whether what the word names is this instruction
+is_this : Mnemonic → Option Mnemonic → Bool
+is_this m None = false
+is_this m (Some n) = is_same n m
+
+is_read_back : Mnemonic → Bool
+is_read_back m = is_this m (mnemonic_named (name_of m))
+
+-- the check over the whole table
+all_read_back : list_all is_read_back mnemonics ≡ true
+unfolding is_same is_this is_read_back mnemonic_named
+all_read_back = refl
+
+-- an instruction's name names it, so that no two have one name
+pub mnemonic_named-name_of : (m : Mnemonic) → Contains mnemonics m → mnemonic_named (name_of m) ≡ Some m
+unfolding is_read_back is_this
+mnemonic_named-name_of m h =
+    this (mnemonic_named (name_of m)) (All-contains (λ n. is_read_back n ≡ true) mnemonics m (AllPass-from_list_all is_read_back mnemonics all_read_back) h)
+  where
+    this : (o : Option Mnemonic) → is_this m o ≡ true → o ≡ Some m
+    this None e = absurd cc
+    this (Some n) e = ap Some (same-is_same n m e)

@@ -1,12 +1,14 @@
-//! Functions and mnemonics of the T425's instruction set, after "Transputer Instruction Set: a
+//! Functions, operations and mnemonics of the T425's instruction set, after "Transputer Instruction Set: a
 //! compiler writer's guide".
 #![tactic(auto)]
 
 mod functions;
 mod mnemonics;
+mod operations;
 
 pub use functions::{Fun, fun_code, fun_of};
 pub use mnemonics::{Mnemonic, mnemonic_name, mnemonic_of, mnemonic_spelled};
+pub use operations::{Op, op_code, op_of};
 
 #[cfg(test)]
 mod tests {
@@ -51,5 +53,76 @@ mod tests {
         assert!(rt; mnemonic_of("LDC").is_none());
         assert!(rt; mnemonic_of("ld").is_none());
         assert!(rt; mnemonic_of("").is_none());
+    }
+
+    fn check_operation(rt: &impl Abort, code: u32, name: &str, op: Op) {
+        assert_eq!(rt; op_code(op), code, "{name}");
+        assert!(rt; op_of(code) == Some(op), "{name}");
+        assert_eq!(rt; mnemonic_name(Mnemonic::Plain(op)), name);
+        assert!(rt; mnemonic_of(name) == Some(Mnemonic::Plain(op)), "{name}");
+    }
+
+    /// The guide's table: an operation's code and its name.
+    #[test]
+    fn operations_have_their_codes_and_names(rt: HostRuntime) {
+        let table = [
+            (0x00, "rev", Op::Rev),
+            (0x01, "lb", Op::Lb),
+            (0x02, "bsub", Op::Bsub),
+            (0x03, "endp", Op::Endp),
+            (0x04, "diff", Op::Diff),
+            (0x05, "add", Op::Add),
+            (0x06, "gcall", Op::Gcall),
+            (0x07, "in", Op::In),
+            (0x08, "prod", Op::Prod),
+            (0x09, "gt", Op::Gt),
+            (0x0A, "wsub", Op::Wsub),
+            (0x0B, "out", Op::Out),
+            (0x0C, "sub", Op::Sub),
+            (0x0D, "startp", Op::Startp),
+            (0x10, "seterr", Op::Seterr),
+            (0x13, "csub0", Op::Csub0),
+            (0x15, "stopp", Op::Stopp),
+            (0x18, "sthf", Op::Sthf),
+            (0x1B, "ldpi", Op::Ldpi),
+            (0x1C, "stlf", Op::Stlf),
+            (0x1D, "xdble", Op::Xdble),
+            (0x1F, "rem", Op::Rem),
+            (0x20, "ret", Op::Ret),
+            (0x21, "lend", Op::Lend),
+            (0x22, "ldtimer", Op::Ldtimer),
+            (0x29, "testerr", Op::Testerr),
+            (0x2C, "div", Op::Div),
+            (0x31, "lmul", Op::Lmul),
+            (0x32, "not", Op::Not),
+            (0x33, "xor", Op::Xor),
+            (0x34, "bcnt", Op::Bcnt),
+            (0x37, "lsum", Op::Lsum),
+            (0x39, "runp", Op::Runp),
+            (0x3B, "sb", Op::Sb),
+            (0x3C, "gajw", Op::Gajw),
+            (0x3F, "wcnt", Op::Wcnt),
+            (0x40, "shr", Op::Shr),
+            (0x41, "shl", Op::Shl),
+            (0x42, "mint", Op::Mint),
+            (0x46, "and", Op::And),
+            (0x4A, "move", Op::Move),
+            (0x4B, "or", Op::Or),
+            (0x4F, "ldiff", Op::Ldiff),
+            (0x52, "sum", Op::Sum),
+            (0x53, "mul", Op::Mul),
+            (0x54, "sttimer", Op::Sttimer),
+            (0x57, "clrhalterr", Op::Clrhalterr),
+            (0x58, "sethalterr", Op::Sethalterr),
+            (0x5A, "dup", Op::Dup),
+        ];
+        for (code, name, op) in table {
+            check_operation(&rt, code, name, op);
+        }
+        for code in [0x0E, 0x0F, 0x11, 0x59, 0x5B, 0x105, 0xFFFF_FFFF] {
+            assert!(rt; op_of(code).is_none(), "{code}");
+        }
+        assert!(rt; mnemonic_of("Rev").is_none());
+        assert!(rt; mnemonic_of("outbyte").is_none());
     }
 }

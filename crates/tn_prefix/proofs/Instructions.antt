@@ -4,7 +4,7 @@ use Rattle.tn_isa.specs.declared.functions.Fun.{Fun}
 use Rattle.tn_isa.specs.declared.functions.Fun.TheVariants.{J, Ldlp, Pfix, Ldnl, Ldc, Ldnlp, Nfix, Ldl, Adc, Call, Cj, Ajw, Eqc, Stl, Stnl, Opr}
 use Rattle.tn_isa.specs.Functions.{code_of, function_at}
 use Rattle.tn_isa.specs.declared.mnemonics.Mnemonic.{Mnemonic}
-use Rattle.tn_isa.specs.declared.mnemonics.Mnemonic.TheVariants.{Direct}
+use Rattle.tn_isa.specs.declared.mnemonics.Mnemonic.TheVariants.{Direct, Plain}
 use Rattle.std.proofs.lemmas.Bool.{not-true}
 use Rattle.std.proofs.lemmas.List.Sums.{AllPass-from_list_all}
 use Rattle.std.proofs.lemmas.List.Elements.{All-contains}
@@ -86,6 +86,7 @@ IsCoded-other Opr p n = refl
 -- whether a mnemonic is of a function that is coded
 is_coded_mnemonic : Mnemonic → Bool
 is_coded_mnemonic (Direct f) = not (is_prefix f)
+is_coded_mnemonic (Plain op) = true
 
 -- each function that a source may name is coded
 pub IsCoded-mnemonic : (f : Fun) → Contains mnemonics (Direct f) → IsCoded f

@@ -1,5 +1,5 @@
 -- What follows of a flat command from how it ends.
-use Rattle.std.proofs.Common.{◌≡◌, ◌≢◌, ℕ, ◌⊎◌, inl, inr, not, Bool, true, false, cond, List, [], ◌∷◌, filter, codes, Option, Some, None, IfSome, IsSomeAnd, refl, sym, ap, ◌∙◌, subst}
+use Rattle.std.proofs.Common.{◌≡◌, ◌≢◌, ℕ, ◌⊎◌, inl, inr, not, Bool, true, false, cond, List, [], ◌∷◌, codes, Option, Some, None, IfSome, IsSomeAnd, refl, sym, ap, ◌∙◌, subst}
 use Rattle.std.specs.Str.{bytes_eq}
 use Rattle.tn_io.specs.Faults.{Rose}
 use Rattle.tn_io.specs.FileLists.{Files, held}
@@ -8,9 +8,9 @@ use Rattle.tn_top.specs.declared.statuses.Status.{Status}
 use Rattle.tn_top.specs.declared.statuses.Status.TheVariants.{Done, Fault, Usage, Limit, ReadFault, WriteFault, OutFault, NoMemory, NotEnabled}
 use Rattle.tn_top.specs.Words.{Asked, asked, flat}
 use Rattle.tn_top.specs.Answers.{Answer, usage, unread, fault, limit, done, Coded, coded, missing, too_long, not_plain, code, flat_answer, answer_to, answer, status_of}
-use Rattle.tn_top.specs.Outcomes.{Told, IfTold, SameFiles, Holds, HoldsPart, without, IsDone, CannotRead, Cause, NothingFailed, FilesAfter}
-use Rattle.tn_top.specs.Flat.{IsCodeOf, IsRefusal, FlatEnds, Ends}
-use Rattle.tn_top.proofs.Puts.{told-weaker, told-same, part-same}
+use Rattle.tn_top.specs.Outcomes.{Told, IfTold, Holds, HoldsPart, without, IsDone, CannotRead, Cause, NothingFailed, FilesAfter}
+use Rattle.tn_top.specs.Flat.{FlatEnds, Ends}
+use Rattle.tn_top.proofs.Puts.{told-weaker, part-same}
 
 -- a name holds nothing once its files are left out
 pub held-without : (files : Files) (name : List ℕ) → held (without files name) name ≡ None

@@ -1,5 +1,5 @@
 -- A flat source by its first line.
-use Rattle.std.proofs.Common.{◌≡◌, append_assoc, append-nil, ℕ, ◌+◌, ◌<◌, ◌≤◌, Bool, true, false, cond, ℤ, List, [], ◌∷◌, ◌++◌, length, get_or, Option, Some, None, refl, sym, ap, ◌∙◌, ltb, arith}
+use Rattle.std.proofs.Common.{◌≡◌, append_assoc, append-nil, ℕ, ◌<◌, ◌≤◌, Bool, true, false, cond, ℤ, List, [], ◌∷◌, ◌++◌, length, Option, Some, None, refl, sym, ap, ◌∙◌, ltb, arith}
 use Rattle.std.specs.Option.{option_map}
 use Rattle.std.specs.Bool.{◌==◌}
 use Rattle.std.specs.List.{All, onto_first, slice_split, position_or_len, before_first, after_first}

@@ -1,5 +1,5 @@
 -- The steps of making the code of a flat source.
-use Rattle.std.proofs.Common.{◌≡◌, ℕ, ◌<◌, ◌≤◌, ◌⊎◌, inl, inr, ℤ, List, length, Option, Some, None, IfSome, IsSomeAnd, refl, sym, ap, subst, arith}
+use Rattle.std.proofs.Common.{◌≡◌, ℕ, ◌<◌, ◌≤◌, inl, inr, ℤ, List, length, Option, Some, None, IfSome, IsSomeAnd, refl, ap, subst}
 use Rattle.std.proofs.lemmas.Bool.{lt-ltb, le-ltb}
 use Rattle.tn_isa.specs.declared.functions.Fun.{Fun}
 use Rattle.tn_io.specs.Faults.{Rose}
@@ -7,8 +7,8 @@ use Rattle.tn_io.specs.FileLists.{Files}
 use Rattle.tn_io.specs.Stores.{Stored}
 use Rattle.tn_top.specs.declared.statuses.Status.{Status}
 use Rattle.tn_top.specs.declared.statuses.Status.TheVariants.{Done, Fault, Usage, Limit, ReadFault, WriteFault, OutFault, NoMemory, NotEnabled}
-use Rattle.tn_top.specs.FlatSource.{flat_of, code_of}
-use Rattle.tn_top.specs.Answers.{coded, coded_lines, too_long, not_plain, code}
+use Rattle.tn_top.specs.FlatSource.{flat_of}
+use Rattle.tn_top.specs.Answers.{coded, coded_lines, too_long}
 use Rattle.tn_top.specs.Outcomes.{Told, Holds, HoldsPart}
 use Rattle.tn_top.specs.Flat.{IsCodeOf, IsRefusal, FlatEnds}
 

@@ -1,10 +1,10 @@
 -- A file that is made, written and closed, by what each name holds.
-use Rattle.std.proofs.Common.{◌≡◌, ◌≢◌, ℕ, List, [], ◌++◌, length, take, ◌⊎◌, inl, inr, Option, Some, None, unwrap_or, refl, sym, ap, ◌∙◌, subst}
+use Rattle.std.proofs.Common.{◌≡◌, ℕ, List, [], ◌++◌, length, take, ◌⊎◌, inl, inr, Option, Some, None, unwrap_or, refl, sym, ap, ◌∙◌, subst}
 use Rattle.std.proofs.Math.Seq.{take-length}
 use Rattle.tn_io.specs.FileLists.{Files, held, with_file, with_more, with_front}
 use Rattle.tn_io.specs.Stores.{told_with, told_more, told_front}
 use Rattle.tn_io.proofs.FileListLaws.{held-with_file, held-with_file-other}
-use Rattle.tn_top.specs.Outcomes.{Told, SameFiles, SameOthers, Holds, HoldsPart}
+use Rattle.tn_top.specs.Outcomes.{Told, SameFiles, Holds, HoldsPart}
 
 -- what follows from a relation between told files follows where they are told
 pub told-weaker : {P Q : Files → Files → Type 0} (before after : Option Files) → ((fs gs : Files) → P fs gs → Q fs gs) → Told before after P → Told before after Q

@@ -1,10 +1,9 @@
 -- How making the code of a flat source ends.
 use Rattle.std.specs.Prelude.{◌≡◌, ⊤, ◌⊎◌, ℕ, List, Some, None, IfSome}
 use Rattle.tn_io.specs.Faults.{Rose}
-use Rattle.tn_io.specs.FileLists.{Files}
 use Rattle.tn_io.specs.Stores.{Stored, told}
 use Rattle.tn_top.specs.declared.statuses.Status.{Status}
-use Rattle.tn_top.specs.declared.statuses.Status.TheVariants.{Done, Fault, Usage, Limit, ReadFault, WriteFault, OutFault, NoMemory, NotEnabled}
+use Rattle.tn_top.specs.declared.statuses.Status.TheVariants.{Done, Fault, Limit, ReadFault, WriteFault, NoMemory}
 use Rattle.tn_top.specs.Words.{Asked, flat}
 use Rattle.tn_top.specs.Answers.{coded, too_long, not_plain, code}
 use Rattle.tn_top.specs.Outcomes.{Told, Holds, HoldsPart}

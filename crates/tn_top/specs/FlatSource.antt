@@ -1,11 +1,11 @@
 -- Flat sources: lines of a mnemonic, one blank and a number, each ended by a line feed.
-use Rattle.std.specs.Prelude.{ℕ, ◌^◌, ℤ, pos, neg_ℤ, Bool, ◌&&◌, ◌==◌, nat_lt, nat_le, List, [], ◌∷◌, length, flat_map, Option, Some, None, option_and_then, option_map, if◌then◌else◌}
+use Rattle.std.specs.Prelude.{ℕ, ◌^◌, ℤ, pos, neg_ℤ, ◌&&◌, ◌==◌, nat_lt, nat_le, List, [], ◌∷◌, length, flat_map, Option, Some, None, option_and_then, option_map, if◌then◌else◌}
 use Rattle.std.specs.List.{list_all, slice_split, position_or_len, before_first, after_first}
 use Rattle.std.specs.Char.{is_ascii_digit}
 use Rattle.std.specs.Str.Parse.{digits_value}
 use Rattle.tn_isa.specs.declared.functions.Fun.{Fun}
 use Rattle.tn_isa.specs.declared.mnemonics.Mnemonic.{Mnemonic}
-use Rattle.tn_isa.specs.declared.mnemonics.Mnemonic.TheVariants.{Direct}
+use Rattle.tn_isa.specs.declared.mnemonics.Mnemonic.TheVariants.{Direct, Plain}
 use Rattle.tn_isa.specs.Mnemonics.{mnemonic_named}
 use Rattle.tn_prefix.specs.Coding.{coding}
 
@@ -33,13 +33,14 @@ unfoldable pub number_of : List ℕ → Option ℤ
 number_of [] = None
 number_of (c ∷ cs) = if c == 45 then natural_of cs >>= negative else natural_of (c ∷ cs) >>= positive
 
--- the function that a mnemonic has
-abbrev pub function_of : Mnemonic → Fun
-function_of (Direct f) = f
+-- the function that a mnemonic has, if it has an operand
+abbrev pub function_of : Mnemonic → Option Fun
+function_of (Direct f) = Some f
+function_of (Plain op) = None
 
 -- the function and the operand of a plain line
 unfoldable pub plain_line : List ℕ → Option (Fun × ℤ)
-plain_line line = cut 32 line >>= λ parts. mnemonic_named parts.0 >>= λ m. number_of parts.1 >>= λ e. Some (function_of m, e)
+plain_line line = cut 32 line >>= λ parts. mnemonic_named parts.0 >>= λ m. function_of m >>= λ f. number_of parts.1 >>= λ e. Some (f, e)
 
 -- what stands behind the last line feed has to be nothing
 abbrev pub ended : List ℕ → Option (List (Fun × ℤ))

@@ -7,7 +7,7 @@ use Rattle.tn_io.specs.Stores.{Stored}
 use Rattle.tn_top.specs.declared.statuses.Status.{Status}
 use Rattle.tn_top.specs.declared.statuses.Status.TheVariants.{Done, Fault, Usage, Limit, ReadFault, WriteFault, OutFault, NoMemory, NotEnabled}
 use Rattle.tn_top.specs.Words.{asked}
-use Rattle.tn_top.specs.Answers.{Answer, usage, unread, fault, limit, done, answer}
+use Rattle.tn_top.specs.Answers.{Answer, unread, fault, limit, done, answer}
 
 -- a relation between told files; nothing is said of files that are told neither before nor after
 abbrev pub Told : Option Files → Option Files → (Files → Files → Type 0) → Type 0

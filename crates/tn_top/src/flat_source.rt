@@ -62,12 +62,14 @@ pub fn code_of(alloc: Global, instructions: &[Instruction]) -> Result<Vec<u8>, A
 }
 
 /// The instruction of a plain line.
-#[tactic(auto, unfolding(crate::specs::FlatSource::plain_line))]
+#[tactic(auto, using(tn_prefix::proofs::Instructions::coded_functions), unfolding(crate::specs::FlatSource::plain_line))]
 fn plain_line(line: &[u8]) -> Option<Instruction>
     ensures { option_map instruction_of result ≡ plain_line line.now }
 {
     let (name, token) = cut(b' ', line)?;
-    let Mnemonic::Direct(fun) = mnemonic_spelled(name)?;
+    let Mnemonic::Direct(fun) = mnemonic_spelled(name)? else {
+        return None;
+    };
     let operand = number(token)?;
     Some(Instruction { fun, operand })
 }

@@ -1,4 +1,4 @@
-use Rattle.std.proofs.Common.{◌≡◌, true, get_or, take, length, arith, sym, ap, ◌∙◌}
+use Rattle.std.proofs.Common.{◌≡◌, true, get_or, take, arith, sym, ◌∙◌}
 use Rattle.std.specs.Char.{is_ascii_digit}
 use Rattle.tn_top.proofs.Numbers.{few_digits, before_tenth, one_more}
 use Rattle.std.proofs.lemmas.List.{length-take}
