@@ -5,3 +5,5 @@ pub mod Channels
 pub mod Rows
 pub mod Effects
 pub mod Steps
+pub mod Codes
+pub mod Primaries

@@ -15,6 +15,8 @@ mod registers;
 mod rows;
 mod stacks;
 mod steps;
+#[cfg(test)]
+mod tests;
 mod turns;
 
 pub use outcomes::{Life, Outcome, Transfer, Why};

@@ -1,5 +1,6 @@
 ghost use Rattle.std.specs.Prelude.{◌≡◌};
-ghost use Rattle.tn_cpu.specs.States.{word_or_0};
+ghost use Rattle.tn_cpu.specs.States.{below, words_above, word_or_0};
+ghost use Rattle.tn_cpu.specs.Queues.{stored};
 ghost use Rattle.tn_cpu.specs.Rows.{frame_refusal, frame_stored, calls, starts, ends_last, ends_other, ends, runs, stops, is_loop_taken, loop_stored, loop_refusal, loop_end, loops, moves};
 
 use crate::outcomes::{Outcome, Why};
@@ -97,7 +98,7 @@ impl<M: Space> Cpu<M> {
             return self.refuse(touch);
         }
         let iptr = self.word_at(w);
-        self.store(words_above(w, 1), below(count, 1));
+        self.lower_count(w, count);
         self.wptr = w;
         self.clear();
         self.go_on(iptr)
@@ -113,7 +114,7 @@ impl<M: Space> Cpu<M> {
         if let Some(touch) = self.next_refusal(self.back) {
             return self.refuse(touch);
         }
-        self.store(words_above(w, 1), below(count, 1));
+        self.lower_count(w, count);
         self.give_way()
     }
 
@@ -188,11 +189,18 @@ impl<M: Space> Cpu<M> {
     {
         if is_loop_taken(count) {
             let index = self.word_at(w);
-            self.store(words_above(w, 1), below(count, 1));
+            self.lower_count(w, count);
             self.store(w, index.wrapping_add(1));
         } else {
-            self.store(words_above(w, 1), below(count, 1));
+            self.lower_count(w, count);
         }
+    }
+
+    /// Stores a count that falls by 1, in the word after an address.
+    fn lower_count(&mut self, w: u32, count: u32)
+        ensures { self.new ≡ record self.old { memory = stored M.access self.old.memory (words_above w 1) (below count 1) } }
+    {
+        self.store(words_above(w, 1), below(count, 1));
     }
 
     /// `move`: copies Areg bytes from Creg to Breg, as if all were read first.
