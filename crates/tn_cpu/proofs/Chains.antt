@@ -15,7 +15,8 @@ use Rattle.tn_cpu.specs.declared.turns.Turn.{Turn}
 use Rattle.tn_cpu.specs.States.{State, wrap}
 use Rattle.tn_cpu.specs.Effects.{effect}
 use Rattle.tn_cpu.specs.Steps.{prefixed, executed, execute_byte, step}
-use Rattle.tn_cpu.specs.Codes.{StandsAt, Reads, having_read}
+use Rattle.tn_cpu.specs.Codes.{StandsAt, Reads, having_read, begun_at}
+use Rattle.tn_cpu.proofs.Placed.{effect-placed}
 use Rattle.tn_cpu.specs.Codes.Reads.{none, more}
 
 -- a step executes the byte at the instruction pointer
@@ -99,3 +100,9 @@ module _ {M : Type 0} (access : Access M) (f : Fun) (e : ℤ) (s : State M) (fit
       ∙ (ap (λ (g : Fun). effect access g (loaded (register_after s.oreg (coding_prefixes e)) (instruction f (low_bits e))) (turn (wrap (wrap (s.iptr + length (coding_prefixes e)) + 1))) (having_read (coding_prefixes e) s)) names
       ∙ (ap (λ (x : ℕ). effect access f x (turn (wrap (wrap (s.iptr + length (coding_prefixes e)) + 1))) (having_read (coding_prefixes e) s)) sees
       ∙ ap (λ (i : ℕ). effect access f (word_of e) (turn i) (having_read (coding_prefixes e) s)) behind))
+
+  -- which is the effect of f with e on the state before the coding, but that a stop leaves the operand register and the instruction pointer as the prefix bytes made them
+  pub chain : (busy : ℕ) (slice : Bool) (clock : ℕ) → step access busy slice clock (having_read (coding_prefixes e) s) ≡ begun_at (register_after s.oreg (coding_prefixes e)) (wrap (s.iptr + length (coding_prefixes e))) (effect access f (word_of e) (record { following = wrap (s.iptr + length (coding f e)); busy = busy; slice = slice; clock = clock }) s)
+  chain busy slice clock =
+      chain-effect busy slice clock
+      ∙ effect-placed (register_after s.oreg (coding_prefixes e)) (wrap (s.iptr + length (coding_prefixes e))) access f (word_of e) (record { following = wrap (s.iptr + length (coding f e)); busy = busy; slice = slice; clock = clock }) s

@@ -8,6 +8,15 @@ use crate::registers::Reg;
 use crate::turns::Turn;
 use tn_mem::{Space, Touch};
 
+/// The output channel of link 0, which those of links 1 to 3 follow.
+const OUTPUT_LINKS: u32 = 0x8000_0000;
+
+/// The input channel of link 0, which those of links 1 to 3 follow.
+const INPUT_LINKS: u32 = 0x8000_0010;
+
+/// The address behind the event word, from which on a word can be a channel of two processes.
+const FREE_WORDS: u32 = 0x8000_0024;
+
 /// The direction of a transfer.
 #[derive(Clone, Copy)]
 pub enum Way {
@@ -24,7 +33,7 @@ pub enum Channel {
     Link(u8),
     /// A word by which two processes meet.
     Internal,
-    /// Unaligned, or a word below the channels of processes that is no link of the direction.
+    /// Unaligned, the event word, or a link of the other direction.
     NoChannel,
 }
 
@@ -190,8 +199,8 @@ fn channel_at(way: Way, a: u32) -> Channel
         return Channel::NoChannel;
     }
     match way {
-        Way::Input => aligned_channel(0x8000_0010, a),
-        Way::Output => aligned_channel(0x8000_0000, a),
+        Way::Input => aligned_channel(INPUT_LINKS, a),
+        Way::Output => aligned_channel(OUTPUT_LINKS, a),
     }
 }
 
@@ -202,7 +211,7 @@ fn aligned_channel(first: u32, a: u32) -> Channel
 {
     if first <= a && a < first + 16 {
         Channel::Link(((a - first) / 4) as u8)
-    } else if 0x8000_0000 <= a && a < 0x8000_0024 {
+    } else if OUTPUT_LINKS <= a && a < FREE_WORDS {
         Channel::NoChannel
     } else {
         Channel::Internal

@@ -1,6 +1,6 @@
 //! Single instructions of the T425 over any space of addresses, after "Transputer Instruction Set:
 //! a compiler writer's guide" and the T425 data sheet. Where those leave a register or a case
-//! open, the tables of this crate's `Effects` and `Rows` decide.
+//! open, the tables in specs/Effects.antt, specs/Rows.antt and specs/Channels.antt decide.
 #![tactic(auto)]
 
 mod arithmetic;

@@ -312,7 +312,7 @@ impl<M: Space> Cpu<M> {
             Reg::Word(_) => {
                 self.pop();
                 self.go_on(turn.following)
-            },
+            }
             Reg::Undefined => self.stop(Why::Undefined),
         }
     }
