@@ -8,10 +8,9 @@ use Rattle.tn_top.specs.declared.statuses.Status.{Status}
 use Rattle.tn_top.specs.declared.statuses.Status.TheVariants as kind
 use Rattle.tn_top.specs.declared.statuses.Status.TheVariants.{Done, Usage, Limit, ReadFault, WriteFault, OutFault, NoMemory, NotEnabled}
 use Rattle.tn_text.specs.declared.faults.Fault.{Fault}
-use Rattle.tn_text.specs.FaultLines.{fault_line}
 use Rattle.tn_top.specs.declared.refusals.Refusal.{Refusal}
 use Rattle.tn_top.specs.declared.refusals.Refusal.TheVariants as refusal
-use Rattle.tn_top.specs.Refusals.{limit_line, unwritten_line, end_status, end_line, refused_status, refused_line}
+use Rattle.tn_top.specs.Refusals.{end_status, end_line, refused_line}
 use Rattle.tn_top.specs.ErrLines.{IsLine}
 use Rattle.tn_top.specs.Words.{Asked, asked, source_of, target_of, flat, one}
 use Rattle.tn_top.specs.OneProcessor.{boot_stream}

@@ -1,10 +1,9 @@
 -- Lines on the error output.
-use Rattle.std.proofs.Common.{◌≡◌, ℕ, List, [], length, take, take_all, append-nil, Option, Some, None, Result, Ok, Err, refl, sym, ap, ◌∙◌, arith, codes}
+use Rattle.std.proofs.Common.{◌≡◌, ℕ, List, [], length, take, take_all, append-nil, Option, Some, None, Result, Ok, Err, refl, sym, ap, ◌∙◌, arith}
 use Rattle.tn_io.specs.declared.faults.OutFault.{OutFault}
-use Rattle.tn_io.specs.Faults.{Rose}
 use Rattle.tn_io.specs.Outs.{Printed, told_then, Prints}
 use Rattle.tn_text.specs.declared.puts.PutRefused.{PutRefused}
-use Rattle.tn_text.specs.Puts.{Taken, Puts}
+use Rattle.tn_text.specs.Puts.{Puts}
 use Rattle.tn_top.specs.ErrLines.{Tells}
 
 -- all of a piece is a prefix of it

@@ -1,5 +1,5 @@
 -- The steps of a command that makes something of a flat source's code.
-use Rattle.std.proofs.Common.{◌≡◌, ℕ, ◌<◌, ◌≤◌, ◌⊎◌, inl, inr, ℤ, List, length, Option, Some, None, IfSome, IsSomeAnd, Result, Ok, Err, refl, sym, ap, subst}
+use Rattle.std.proofs.Common.{◌≡◌, ℕ, ◌<◌, ◌≤◌, inl, inr, ℤ, List, length, Option, Some, None, IfSome, IsSomeAnd, Result, Ok, Err, refl, sym, ap, subst}
 use Rattle.std.proofs.lemmas.Bool.{lt-ltb, le-ltb}
 use Rattle.tn_isa.specs.declared.functions.Fun.{Fun}
 use Rattle.tn_io.specs.Faults.{Rose}

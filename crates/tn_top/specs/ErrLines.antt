@@ -1,5 +1,5 @@
 -- What is told on the error output.
-use Rattle.std.specs.Prelude.{◌≡◌, ℕ, ◌≤◌, List, [], take, Option, Some}
+use Rattle.std.specs.Prelude.{◌≡◌, ℕ, List, [], take, Some}
 use Rattle.tn_io.specs.Faults.{Rose}
 use Rattle.tn_io.specs.Outs.{Printed, told_then}
 use Rattle.tn_io.specs.Stores.{Stored}

@@ -1,5 +1,5 @@
 -- How a command that makes something of a flat source's code ends.
-use Rattle.std.specs.Prelude.{◌≡◌, ⊤, ◌⊎◌, ℕ, ◌<◌, length, List, Some, None, Result, Ok, Err, IfSome}
+use Rattle.std.specs.Prelude.{◌≡◌, ⊤, ◌⊎◌, ℕ, List, Some, None, Result, Ok, Err, IfSome}
 use Rattle.tn_io.specs.Faults.{Rose}
 use Rattle.tn_io.specs.Stores.{Stored, told}
 use Rattle.tn_top.specs.declared.refusals.Refusal.{Refusal}

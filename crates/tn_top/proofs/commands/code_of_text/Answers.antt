@@ -1,5 +1,5 @@
 use Rattle.tn_asm.specs.declared.instructions.Instruction.{Instruction}
-use Rattle.std.proofs.Common.{Vec, Global, map, length, arith, Ok, Err, ap, sym, ◌∙◌}
+use Rattle.std.proofs.Common.{Vec, Global, map, arith, Ok, ap, sym, ◌∙◌}
 use Rattle.tn_top.specs.Answers.{within_limit, too_much}
 use Rattle.tn_asm.specs.Instructions.{instruction_of}
 use Rattle.tn_top.proofs.SourceSteps.{coded-text, no_code, within_limit-code, within_limit-too_much}

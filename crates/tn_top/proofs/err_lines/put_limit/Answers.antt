@@ -1,7 +1,7 @@
-use Rattle.std.proofs.Common.{ap, ◌∙◌, ◌++◌, codes}
+use Rattle.std.proofs.Common.{codes}
 use Rattle.std.specs.Fmt.{decimal}
 use Rattle.tn_text.specs.Words.{spaced}
-use Rattle.tn_text.proofs.Putting.{Puts-as, Puts-joined, Puts-stopped, Puts-refused}
+use Rattle.tn_text.proofs.Putting.{Puts-joined, Puts-stopped, Puts-refused}
 use Rattle.tn_top.specs.Refusals.{limit_line}
 use Rattle.tn_top.proofs.err_lines.put_limit.Goals as goal
 

@@ -1,7 +1,5 @@
-use Rattle.std.proofs.Common.{ap, ◌∙◌, ◌++◌, codes}
-use Rattle.std.specs.Fmt.{decimal}
-use Rattle.tn_text.specs.Words.{spaced}
-use Rattle.tn_text.proofs.Putting.{Puts-as, Puts-joined, Puts-stopped, Puts-refused}
+use Rattle.std.proofs.Common.{codes}
+use Rattle.tn_text.proofs.Putting.{Puts-joined, Puts-stopped, Puts-refused}
 use Rattle.tn_top.proofs.err_lines.put_line.Goals as goal
 
 pub returns-in_err-put-clause-puts : goal.returns-in_err-put-clause-puts

@@ -1,7 +1,5 @@
 use Rattle.std.proofs.Common.{ap, sym, ◌∙◌, ◌++◌, codes}
-use Rattle.std.specs.Fmt.{decimal}
-use Rattle.tn_text.specs.Words.{spaced}
-use Rattle.tn_text.proofs.Putting.{Puts-as, Puts-joined, Puts-stopped, Puts-refused}
+use Rattle.tn_text.proofs.Putting.{Puts-as}
 use Rattle.tn_top.specs.Refusals.{refused_line, unread_line, unwritten_line}
 use Rattle.tn_top.proofs.err_lines.put_refusal.Goals as goal
 
