@@ -1,13 +1,12 @@
 -- Reading a flat source gives the instructions that its lines say, or the fault of the first line
 -- with something wrong.
-use Rattle.std.proofs.Common.{◌≡◌, ℕ, ◌+◌, ◌⊎◌, inl, inr, ℤ, List, [], ◌∷◌, ◌++◌, length, Option, Some, None, Result, Ok, Err, IfOk, refl, sym, ap, ◌∙◌, subst, append_assoc, append-nil}
+use Rattle.std.proofs.Common.{◌≡◌, ℕ, ◌⊎◌, inl, inr, ℤ, List, [], ◌∷◌, ◌++◌, Option, Some, None, Result, Ok, Err, IfOk, refl, sym, ap, ◌∙◌, subst, append_assoc, append-nil}
 use Rattle.std.specs.List.{All}
 use Rattle.std.proofs.lemmas.List.Elements.{All-nil, All-cons}
 use Rattle.std.specs.Str.Lines.{lines}
 use Rattle.tn_isa.specs.declared.functions.Fun.{Fun}
 use Rattle.tn_text.specs.declared.faults.Cause.{Cause}
 use Rattle.tn_text.specs.declared.faults.Fault.{Fault}
-use Rattle.tn_text.specs.Faults.{fault_at}
 use Rattle.tn_text.specs.declared.faults.ReadFault.{ReadFault}
 use Rattle.tn_text.specs.declared.faults.ReadFault.TheVariants as read
 use Rattle.tn_text.specs.Reading.{Gives, token_step, Walks, IsFirstBadLine, IsLacking}

@@ -1,11 +1,10 @@
 -- What a line of a flat source says, what is wrong with it, and what reading it gives.
-use Rattle.std.proofs.Common.{◌≡◌, ℕ, suc, arith, ◌⊎◌, inl, inr, ℤ, pos, Bool, true, false, cond, List, [], ◌∷◌, ◌++◌, length, Option, Some, None, Result, Ok, Err, refl, sym, ap, ◌∙◌, append-nil}
+use Rattle.std.proofs.Common.{◌≡◌, ℕ, suc, arith, ◌⊎◌, inl, inr, ℤ, pos, Bool, true, false, cond, List, [], ◌∷◌, ◌++◌, length, Option, Some, None, Ok, Err, refl, sym, ap, ◌∙◌, append-nil}
 use Rattle.std.specs.Bool.{◌==◌}
 use Rattle.std.proofs.lemmas.Bool.Decides.{nat_tests}
 use Rattle.std.specs.Int.{w32, cast_signed}
 use Rattle.tn_isa.specs.declared.functions.Fun.{Fun}
 use Rattle.tn_isa.specs.declared.functions.Fun.TheVariants.{Opr}
-use Rattle.tn_isa.specs.declared.operations.Op.{Op}
 use Rattle.tn_isa.specs.declared.mnemonics.Mnemonic.{Mnemonic}
 use Rattle.tn_isa.specs.declared.mnemonics.Mnemonic.TheVariants.{Direct, Plain}
 use Rattle.tn_isa.specs.Operations.{operation_code}
@@ -16,7 +15,7 @@ use Rattle.tn_text.specs.Faults.{bare}
 use Rattle.tn_text.specs.Lines.{is_ascii_line, tokens}
 use Rattle.tn_text.specs.Numbers.{number_of}
 use Rattle.tn_text.specs.Reading.{said, token_step}
-use Rattle.tn_text.proofs.ReadingLoops.{token_step-bytes, token_step-said}
+use Rattle.tn_asm.proofs.LineSteps.{token_step-bytes, token_step-said}
 use Rattle.tn_asm.specs.FlatSources.{Says, LineSays, is_shaped, has_number, line_cause}
 use Rattle.tn_asm.specs.FlatReading.{instruction_said, flat_step}
 

@@ -1,5 +1,5 @@
 -- The loop that reads a flat source.
-use Rattle.std.proofs.Common.{◌≡◌, ℕ, ◌+◌, ◌≤◌, ℤ, Bool, true, false, List, [], ◌∷◌, ◌++◌, length, map, Result, Ok, Err, refl, sym, ap, ◌∙◌, arith}
+use Rattle.std.proofs.Common.{◌≡◌, ℕ, ◌+◌, ℤ, true, false, List, [], ◌∷◌, ◌++◌, length, map, Result, Ok, Err, refl, sym, ap, ◌∙◌, arith}
 use Rattle.std.specs.Bool.{◌==◌}
 use Rattle.std.specs.Str.Lines.{lines}
 use Rattle.std.proofs.lemmas.Bool.Decides.{nat_tests}
@@ -10,8 +10,9 @@ use Rattle.tn_text.specs.declared.faults.FaultCode.TheVariants.{NotAscii}
 use Rattle.tn_text.specs.Faults.{bare, fault_at}
 use Rattle.tn_text.specs.Lines.{is_ascii_line, tokens}
 use Rattle.tn_text.specs.Reading.{result_then, said, token_step, ReadsOn}
-use Rattle.tn_text.proofs.ReadingLoops.{token_step-bytes, token_step-said, reads-line, reads-bad, reads-end}
-use Rattle.tn_asm.specs.FlatReading.{instruction_said, flat_step, flat_read}
+use Rattle.tn_text.proofs.ReadingLoops.{reads-line, reads-bad, reads-end}
+use Rattle.tn_asm.proofs.LineSteps.{token_step-bytes, token_step-said}
+use Rattle.tn_asm.specs.FlatReading.{instruction_said, flat_step}
 
 -- tokens that are none, or some
 said-none : {A : Type 0} (f : A → List ℕ) (s : List (Fun × ℤ)) (xs : List A) → (length xs == 0) ≡ true → said flat_step s (map f xs) ≡ Ok s

@@ -1,4 +1,4 @@
-use Rattle.std.proofs.Common.{◌≡◌, ◌+◌, ◌≤◌, List, ◌++◌, [], ◌∷◌, map, length, arith, true, false, Ok, Err, refl, sym, ap, ◌∙◌, subst}
+use Rattle.std.proofs.Common.{◌≡◌, ◌+◌, List, ◌++◌, [], ◌∷◌, map, length, arith, true, false, Ok, Err, sym, ap, ◌∙◌, subst}
 use Rattle.std.proofs.lemmas.List.{map-append}
 use Rattle.std.specs.Bool.{◌==◌}
 use Rattle.tn_text.specs.Faults.{fault_at}
@@ -26,14 +26,14 @@ loop-line-preserved c = (elim c.if-not-is_empty.branch [ then-not-is_empty+in-Ok
     said_one : (i : Instruction) (items : List Instruction) → items ≡ c.loop-line.instructions.items ++ i ∷ [] → (length c.in_ok-tokens.tokens.items == 0) ≡ false → Ok (instruction_of i) ≡ instruction_said (map (λ token. token.now) c.in_ok-tokens.tokens.items) → ReadsOn (token_step flat_step) Ok (map instruction_of items) (c.loop-line.number + 1) c.in-Some.behind.now (flat_read c.args.text.now)
     said_one i items are some is =
         subst (λ s. ReadsOn (token_step flat_step) Ok s (c.loop-line.number + 1) c.in-Some.behind.now (flat_read c.args.text.now))
-            (sym (ap (map instruction_of) are ∙ map-append instruction_of c.loop-line.instructions.items (i ∷ [])))
-            (one (map instruction_of c.loop-line.instructions.items) c.loop-line.number c.loop-line.rest.now (flat_read c.args.text.now) c.loop-line.invariant.0 c.in-Some.line.now c.in-Some.behind.now c.in-Some.ensures.value (λ token. token.now) c.in_ok-tokens.tokens.items (sym c.is_ascii_line.ensures ∙ c.if-not-is_ascii_line.false) c.in_ok-tokens.ensures (instruction_of i) some is)
+        (sym (ap (map instruction_of) are ∙ map-append instruction_of c.loop-line.instructions.items (i ∷ [])))
+        (one (map instruction_of c.loop-line.instructions.items) c.loop-line.number c.loop-line.rest.now (flat_read c.args.text.now) c.loop-line.invariant.0 c.in-Some.line.now c.in-Some.behind.now c.in-Some.ensures.value (λ token. token.now) c.in_ok-tokens.tokens.items (sym c.is_ascii_line.ensures ∙ c.if-not-is_ascii_line.false) c.in_ok-tokens.ensures (instruction_of i) some is)
 
     said_nothing : (items : List Instruction) → items ≡ c.loop-line.instructions.items → (length c.in_ok-tokens.tokens.items == 0) ≡ true → ReadsOn (token_step flat_step) Ok (map instruction_of items) (c.loop-line.number + 1) c.in-Some.behind.now (flat_read c.args.text.now)
     said_nothing items are none =
         subst (λ s. ReadsOn (token_step flat_step) Ok s (c.loop-line.number + 1) c.in-Some.behind.now (flat_read c.args.text.now))
-            (sym (ap (map instruction_of) are))
-            (nothing (map instruction_of c.loop-line.instructions.items) c.loop-line.number c.loop-line.rest.now (flat_read c.args.text.now) c.loop-line.invariant.0 c.in-Some.line.now c.in-Some.behind.now c.in-Some.ensures.value (λ token. token.now) c.in_ok-tokens.tokens.items (sym c.is_ascii_line.ensures ∙ c.if-not-is_ascii_line.false) c.in_ok-tokens.ensures none)
+        (sym (ap (map instruction_of) are))
+        (nothing (map instruction_of c.loop-line.instructions.items) c.loop-line.number c.loop-line.rest.now (flat_read c.args.text.now) c.loop-line.invariant.0 c.in-Some.line.now c.in-Some.behind.now c.in-Some.ensures.value (λ token. token.now) c.in_ok-tokens.tokens.items (sym c.is_ascii_line.ensures ∙ c.if-not-is_ascii_line.false) c.in_ok-tokens.ensures none)
 
 pub returns : goal.returns
 returns c = at_end (map instruction_of c.loop-line.instructions.items) c.loop-line.number c.loop-line.rest.now (flat_read c.args.text.now) c.loop-line.invariant.0 c.in_default.ensures.value

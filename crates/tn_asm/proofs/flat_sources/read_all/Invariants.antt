@@ -1,4 +1,4 @@
-use Rattle.std.proofs.Common.{◌≡◌, ◌+◌, ◌≤◌, length, map, Ok}
+use Rattle.std.proofs.Common.{◌+◌, ◌≤◌, length, map, Ok}
 use Rattle.tn_text.specs.Reading.{token_step, ReadsOn}
 use Rattle.tn_asm.specs.Instructions.{instruction_of}
 use Rattle.tn_asm.specs.FlatReading.{flat_step, flat_read}

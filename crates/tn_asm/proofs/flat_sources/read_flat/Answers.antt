@@ -1,12 +1,5 @@
-use Rattle.std.proofs.Common.{◌≡◌, map, Ok, Err, IfOk, Result, List, sym, ap, ◌∙◌, Vec, Global}
-use Rattle.tn_text.specs.declared.faults.Fault.{Fault}
-use Rattle.tn_text.specs.declared.faults.ReadFault.{ReadFault}
-use Rattle.tn_text.specs.declared.faults.ReadFault.TheVariants as read
-use Rattle.tn_text.specs.Reading.{Gives}
-use Rattle.tn_asm.specs.declared.instructions.Instruction.{Instruction}
+use Rattle.std.proofs.Common.{map}
 use Rattle.tn_asm.specs.Instructions.{instruction_of}
-use Rattle.tn_asm.specs.FlatSources.{IsFlat, IsFlatFault}
-use Rattle.tn_asm.specs.FlatReading.{flat_read}
 use Rattle.tn_asm.proofs.FlatLaws.{gives-found, gives-only, gives-fault}
 use Rattle.tn_asm.proofs.flat_sources.read_flat.Goals as goal
 
