@@ -14,25 +14,10 @@ use Rattle.tn_text.specs.declared.faults.FaultCode.TheVariants.{NotAscii, BadLin
 use Rattle.tn_text.specs.Faults.{bare}
 use Rattle.tn_text.specs.Lines.{is_ascii_line, tokens}
 use Rattle.tn_text.specs.Numbers.{number_of}
-use Rattle.tn_text.specs.Reading.{said, line_tokens, token_step}
-use Rattle.tn_text.proofs.ReadingLoops.{token_step-tokens, token_step-refused}
+use Rattle.tn_text.specs.Reading.{said, token_step}
+use Rattle.tn_asm.proofs.LineSteps.{token_step-bytes, token_step-said}
 use Rattle.tn_asm.specs.FlatSources.{Says, LineSays, is_shaped, has_number, line_cause}
 use Rattle.tn_asm.specs.FlatReading.{instruction_said, flat_step}
-
--- the tokens of a line by its bytes
-line_tokens-bytes : (line : List ℕ) → is_ascii_line line ≡ false → line_tokens line ≡ Err (bare NotAscii)
-unfolding line_tokens
-line_tokens-bytes line e = rw e refl
-
-line_tokens-said : (line : List ℕ) → is_ascii_line line ≡ true → line_tokens line ≡ Ok (tokens line)
-unfolding line_tokens
-line_tokens-said line e = rw e refl
-
-pub token_step-bytes : (s : List (Fun × ℤ)) (line : List ℕ) → is_ascii_line line ≡ false → token_step flat_step s line ≡ Err (bare NotAscii)
-token_step-bytes s line e = token_step-refused flat_step s line (bare NotAscii) (line_tokens-bytes line e)
-
-pub token_step-said : (s : List (Fun × ℤ)) (line : List ℕ) → is_ascii_line line ≡ true → token_step flat_step s line ≡ said flat_step s (tokens line)
-token_step-said s line e = token_step-tokens flat_step s line (tokens line) (line_tokens-said line e)
 
 -- what is wrong with the tokens of a line
 abbrev tokens_cause : List (List ℕ) → Option Cause
@@ -114,11 +99,11 @@ pub line_read : (s : List (Fun × ℤ)) (line : List ℕ) → GoodLine s line �
 line_read s line = at (is_ascii_line line) refl
   where
     by : is_ascii_line line ≡ true → Good s (tokens line) ⊎ Bad s (tokens line) → GoodLine s line ⊎ WrongLine s line
-    by e (inl g) = inl (record { here = g.here; says = (e, g.says); read = token_step-said s line e ∙ g.read; fine = line_cause-tokens line e ∙ g.fine })
-    by e (inr b) = inr (record { cause = b.cause; read = token_step-said s line e ∙ b.read; wrong = line_cause-tokens line e ∙ b.wrong })
+    by e (inl g) = inl (record { here = g.here; says = (e, g.says); read = token_step-said flat_step s line e ∙ g.read; fine = line_cause-tokens line e ∙ g.fine })
+    by e (inr b) = inr (record { cause = b.cause; read = token_step-said flat_step s line e ∙ b.read; wrong = line_cause-tokens line e ∙ b.wrong })
 
     at : (b : Bool) → is_ascii_line line ≡ b → GoodLine s line ⊎ WrongLine s line
-    at false e = inr (record { cause = bare NotAscii; read = token_step-bytes s line e; wrong = line_cause-bytes line e })
+    at false e = inr (record { cause = bare NotAscii; read = token_step-bytes flat_step s line e; wrong = line_cause-bytes line e })
     at true e = by e (tokens_read s (tokens line))
 
 -- what a line says is one list

@@ -11,7 +11,7 @@ use Rattle.tn_text.specs.Faults.{bare, fault_at}
 use Rattle.tn_text.specs.Lines.{is_ascii_line, tokens}
 use Rattle.tn_text.specs.Reading.{result_then, said, token_step, ReadsOn}
 use Rattle.tn_text.proofs.ReadingLoops.{reads-line, reads-bad, reads-end}
-use Rattle.tn_asm.proofs.FlatLines.{token_step-bytes, token_step-said}
+use Rattle.tn_asm.proofs.LineSteps.{token_step-bytes, token_step-said}
 use Rattle.tn_asm.specs.FlatReading.{instruction_said, flat_step}
 
 -- tokens that are none, or some
@@ -31,11 +31,11 @@ module _ (s : List (Fun × ℤ)) (n : ℕ) (rest : List ℕ) (whole : Result (Li
   module _ (line behind : List ℕ) (cut : lines rest ≡ line ∷ lines behind) where
     -- a byte that may not stand in a line
     pub bad_bytes : is_ascii_line line ≡ false → Err (fault_at (n + 1) (bare NotAscii)) ≡ whole
-    bad_bytes e = sym (reads-bad (token_step flat_step) Ok s n rest whole so_far line behind (bare NotAscii) cut (token_step-bytes s line e))
+    bad_bytes e = sym (reads-bad (token_step flat_step) Ok s n rest whole so_far line behind (bare NotAscii) cut (token_step-bytes flat_step s line e))
 
     module _ {A : Type 0} (f : A → List ℕ) (words : List A) (ascii : is_ascii_line line ≡ true) (are : map f words ≡ tokens line) where
       told : token_step flat_step s line ≡ said flat_step s (map f words)
-      told = token_step-said s line ascii ∙ ap (said flat_step s) (sym are)
+      told = token_step-said flat_step s line ascii ∙ ap (said flat_step s) (sym are)
 
       -- a line that says nothing
       pub nothing : (length words == 0) ≡ true → ReadsOn (token_step flat_step) Ok s (n + 1) behind whole

@@ -1,3 +1,4 @@
+pub mod LineSteps
 pub mod FlatLines
 pub mod FlatLoop
 pub mod FlatLaws
