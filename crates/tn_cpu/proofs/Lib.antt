@@ -1,5 +1,0 @@
-pub mod Placed
-pub mod Chains
-pub mod PrimaryRuns
-pub mod Words
-pub mod Stops
