@@ -1,0 +1,5 @@
+pub mod Placed
+pub mod Chains
+pub mod PrimaryRuns
+pub mod Words
+pub mod Stops

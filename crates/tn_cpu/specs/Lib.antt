@@ -1,0 +1,9 @@
+pub mod States
+pub mod Turns
+pub mod Queues
+pub mod Channels
+pub mod Rows
+pub mod Effects
+pub mod Steps
+pub mod Codes
+pub mod Primaries

@@ -1,0 +1,173 @@
+ghost use Rattle.std.specs.Prelude.{◌≡◌, ◌≤◌, IfOk};
+ghost use Rattle.tn_mem.specs.Spaces.{Leaves};
+ghost use Rattle.tn_cpu.specs.States.{powered_up, booted, over_memory};
+
+use crate::outcomes::Life;
+use crate::registers::Reg;
+use std::marker::Model;
+use tn_mem::{CodeFree, Memory, NoMemory, Space, Touch};
+
+/// Where a bootstrap is stored.
+const MEM_START: u32 = 0x8000_0070;
+
+/// A T425 over a space of addresses, without its links.
+#[derive(Debug, Drop)]
+pub struct Cpu<M: Space> {
+    pub(crate) memory: M,
+    pub(crate) a: Reg,
+    pub(crate) b: Reg,
+    pub(crate) c: Reg,
+    pub(crate) oreg: u32,
+    pub(crate) iptr: u32,
+    pub(crate) wptr: u32,
+    pub(crate) front: Reg,
+    pub(crate) back: u32,
+    pub(crate) error: bool,
+    pub(crate) halt: bool,
+    pub(crate) life: Life,
+}
+
+/// What a processor's registers hold.
+#[derive(Clone, Copy, Debug, PartialEq, Eq, Hash)]
+pub struct CpuView {
+    /// Areg.
+    pub a: Reg,
+    /// Breg.
+    pub b: Reg,
+    /// Creg.
+    pub c: Reg,
+    /// The operand register.
+    pub oreg: u32,
+    /// The instruction pointer.
+    pub iptr: u32,
+    /// The workspace pointer.
+    pub wptr: u32,
+    /// The front of the queue of processes; NotProcess.p, #80000000, where it is empty.
+    pub front: Reg,
+    /// The back of the queue.
+    pub back: u32,
+    /// Error.
+    pub error: bool,
+    /// HaltOnError.
+    pub halt: bool,
+}
+
+impl<M: Space> Model for Cpu<M> {
+    ghost use Rattle.tn_cpu.specs.States.{State};
+
+    ghost Value = { State M };
+
+    ghost view = { λ s. record { memory = s.memory; a = s.a; b = s.b; c = s.c; oreg = s.oreg; iptr = s.iptr; wptr = s.wptr; front = s.front; back = s.back; error = s.error; halt = s.halt; life = s.life } };
+}
+
+impl<M: Space> Cpu<M> {
+    /// A processor after power-up, with any memory, Error and HaltOnError. It is idle, its
+    /// registers and the front of its queue are undefined, and all else is 0.
+    pub fn power_up(memory: M, error: bool, halt: bool) -> Cpu<M>
+        ensures { result ≡ powered_up memory error halt }
+    {
+        Cpu {
+            memory,
+            a: Reg::Undefined,
+            b: Reg::Undefined,
+            c: Reg::Undefined,
+            oreg: 0,
+            iptr: 0,
+            wptr: 0,
+            front: Reg::Undefined,
+            back: 0,
+            error,
+            halt,
+            life: Life::Idle,
+        }
+    }
+
+    /// Runs a bootstrap of so many bytes, which stands from MemStart, #80000070, on. The workspace
+    /// pointer is the first multiple of 4 behind it; that the registers are undefined is this
+    /// project's rule.
+    pub fn boot(&mut self, bytes: u32)
+        requires { bytes ≤ 255 }
+        ensures { self.new ≡ booted bytes self.old }
+    {
+        self.a = Reg::Undefined;
+        self.b = Reg::Undefined;
+        self.c = Reg::Undefined;
+        self.oreg = 0;
+        self.iptr = MEM_START;
+        self.wptr = (MEM_START + bytes).next_multiple_of(4);
+        self.front = Reg::Undefined;
+        self.life = Life::Running;
+    }
+
+    /// Stores a byte, as the memory does, and changes nothing else.
+    pub fn store_byte(&mut self, a: u32, v: u8) -> Result<(), Touch>
+        ensures store { Leaves result (M.access.set_byte self.old.memory a v) self.old.memory self.new.memory }
+        ensures rest { self.new ≡ record self.old { memory = self.new.memory } }
+    {
+        self.memory.set_byte(a, v)
+    }
+
+    /// Stores a word, as the memory does, and changes nothing else.
+    pub fn store_word(&mut self, a: u32, v: u32) -> Result<(), Touch>
+        ensures store { Leaves result (M.access.set_word self.old.memory a v) self.old.memory self.new.memory }
+        ensures rest { self.new ≡ record self.old { memory = self.new.memory } }
+    {
+        self.memory.set_word(a, v)
+    }
+
+    /// Whether it runs.
+    pub fn life(&self) -> Life
+        ensures { result ≡ self.now.life }
+    {
+        self.life
+    }
+
+    /// Its memory.
+    pub fn memory(&self) -> &M
+        ensures { result.now ≡ self.now.memory }
+    {
+        &self.memory
+    }
+
+    /// What its registers hold.
+    pub fn view(&self) -> CpuView
+        ensures { result ≡ record { a = self.now.a; b = self.now.b; c = self.now.c; oreg = self.now.oreg; iptr = self.now.iptr; wptr = self.now.wptr; front = self.now.front; back = self.now.back; error = self.now.error; halt = self.now.halt } }
+    {
+        CpuView {
+            a: self.a,
+            b: self.b,
+            c: self.c,
+            oreg: self.oreg,
+            iptr: self.iptr,
+            wptr: self.wptr,
+            front: self.front,
+            back: self.back,
+            error: self.error,
+            halt: self.halt,
+        }
+    }
+}
+
+impl Cpu<Memory> {
+    /// An equal processor over a copy of its memory in which the addresses from `from` up to, but
+    /// not including, `to` are guarded.
+    pub fn guarded(&self, from: u32, to: u32) -> Result<Cpu<CodeFree>, NoMemory>
+        ensures { IfOk result (λ copy. copy ≡ over_memory (record { bytes = self.now.memory; from = from; to = to }) self.now) }
+    {
+        let memory = CodeFree::around(self.memory.copied()?, from, to);
+        Ok(Cpu {
+            memory,
+            a: self.a,
+            b: self.b,
+            c: self.c,
+            oreg: self.oreg,
+            iptr: self.iptr,
+            wptr: self.wptr,
+            front: self.front,
+            back: self.back,
+            error: self.error,
+            halt: self.halt,
+            life: self.life,
+        })
+    }
+}

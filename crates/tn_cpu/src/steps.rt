@@ -1,0 +1,71 @@
+ghost use Rattle.std.specs.Prelude.{◌≡◌};
+ghost use Rattle.tn_cpu.specs.declared.outcomes.Life.{Life};
+ghost use Rattle.tn_prefix.specs.Operand.{loaded, operand_after};
+ghost use Rattle.tn_cpu.specs.Steps.{prefixed, execute_byte, step};
+
+use crate::outcomes::Outcome;
+use crate::processors::Cpu;
+use crate::turns::Turn;
+use tn_isa::{Fun, fun_of};
+use tn_mem::Space;
+
+impl<M: Space> Cpu<M> {
+    /// Fetches the instruction byte at the instruction pointer and executes it: a prefix byte
+    /// changes the operand register, and any other byte executes its function with the operand that
+    /// the register and the byte give. `busy` has bit l for an open input engine of link l and bit
+    /// 4 + l for an open output engine, `slice` lets another process take its turn at `j` and
+    /// `lend`, and `clock` is what `ldtimer` pushes. A stop changes nothing else.
+    #[tactic(auto, unfolding(crate::specs::Steps::step))]
+    pub fn step(&mut self, busy: u8, slice: bool, clock: u32) -> Outcome
+        requires { self.old.life ≡ Life.Running }
+        ensures { step M.access busy slice clock self.old ≡ record { state = self.new; outcome = result } }
+    {
+        match self.memory.byte(self.iptr) {
+            Ok(byte) => self.execute_byte(byte, busy, slice, clock),
+            Err(touch) => self.refuse(touch),
+        }
+    }
+
+    /// Executes the byte at the instruction pointer.
+    #[tactic(auto, unfolding(crate::specs::Steps::execute_byte))]
+    fn execute_byte(&mut self, byte: u8, busy: u8, slice: bool, clock: u32) -> Outcome
+        ensures { execute_byte M.access byte busy slice clock self.old ≡ record { state = self.new; outcome = result } }
+    {
+        let following = self.iptr.wrapping_add(1);
+        match fun_of(byte) {
+            Fun::Pfix | Fun::Nfix => {
+                self.oreg = operand_after(self.oreg, byte);
+                self.iptr = following;
+                Outcome::Prefix
+            }
+            fun => {
+                let turn = Turn {
+                    following,
+                    busy,
+                    slice,
+                    clock,
+                };
+                self.apply(fun, loaded(self.oreg, byte), turn)
+            }
+        }
+    }
+}
+
+/// The operand register with its low four bits replaced by those of a byte.
+fn loaded(register: u32, byte: u8) -> u32
+    ensures { result ≡ loaded register byte }
+{
+    register / 16 * 16 + u32::from(byte % 16)
+}
+
+/// The operand register after a prefix byte; after any other, the operand that its function sees.
+fn operand_after(register: u32, byte: u8) -> u32
+    ensures { result ≡ operand_after register byte }
+{
+    let operand = loaded(register, byte);
+    match fun_of(byte) {
+        Fun::Pfix => operand << 4,
+        Fun::Nfix => !operand << 4,
+        _ => operand,
+    }
+}
