@@ -12,6 +12,8 @@ mod outcomes;
 mod processors;
 mod queues;
 mod registers;
+#[cfg(test)]
+mod row_tests;
 mod rows;
 mod stacks;
 mod steps;

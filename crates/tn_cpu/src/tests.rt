@@ -8,8 +8,6 @@ use tn_mem::{Memory, Space, Touch};
 
 const MOST_NEG: u32 = 0x8000_0000;
 
-const MOST_POS: u32 = 0x7FFF_FFFF;
-
 const MINUS_ONE: u32 = 0xFFFF_FFFF;
 
 /// The address of the next instruction, here.
@@ -75,80 +73,6 @@ fn step<M: Space>(cpu: &mut Cpu<M>) -> Outcome {
     cpu.step(0, false, 77)
 }
 
-#[test]
-fn operations_leave_their_registers_and_error(rt: HostRuntime) -> Result<(), Fail> {
-    let table = [
-        (Op::Diff, 3, 2, Reg::Word(MINUS_ONE), false),
-        (Op::Add, 1, MOST_POS, Reg::Word(MOST_NEG), true),
-        (Op::Gt, MINUS_ONE, 1, Reg::Word(1), false),
-        (Op::Wsub, MOST_NEG, 3, Reg::Word(MOST_NEG + 12), false),
-        (Op::Rem, 2, 0xFFFF_FFF9, Reg::Word(MINUS_ONE), false),
-        (Op::Div, MINUS_ONE, MOST_NEG, X, true),
-        (Op::Shl, 31, 1, Reg::Word(MOST_NEG), false),
-        (Op::Shl, 32, 1, X, false),
-        (Op::Mul, 2, MOST_NEG, Reg::Word(0), true),
-        (Op::Csub0, 3, 3, Reg::Word(3), true),
-    ];
-    let mut cpu = processor(&rt, rt.alloc())?;
-    for (op, a, b, wanted, error) in table {
-        cpu.error = false;
-        let outcome = operate(&mut cpu, op, [Reg::Word(a), Reg::Word(b), X]);
-        assert!(rt; outcome == Outcome::Ran, "{op:?}");
-        assert!(rt; registers(&cpu) == [wanted, X, X], "{op:?}");
-        assert!(rt; cpu.view().error == error, "{op:?}");
-    }
-    Ok(())
-}
-
-#[test]
-fn call_saves_what_ret_takes_back(rt: HostRuntime) -> Result<(), Fail> {
-    let mut cpu = processor(&rt, rt.alloc())?;
-    cpu.a = Reg::Word(1);
-    cpu.b = Reg::Word(2);
-    cpu.memory.set_word(WORKSPACE - 4, 9).ok();
-    assert!(rt; run(&mut cpu, Fun::Call, 8) == Outcome::Ran);
-    let view = cpu.view();
-    assert!(rt; registers(&cpu) == [Reg::Word(FOLLOWING), X, X]);
-    assert!(rt; view.iptr == FOLLOWING + 8 && view.wptr == WORKSPACE - 16);
-    for (at, word) in [(16, FOLLOWING), (12, 1), (8, 2), (4, 0)] {
-        assert_eq!(rt; cpu.memory().word(WORKSPACE.wrapping_sub(at)), Ok(word));
-    }
-    assert!(rt; operate(&mut cpu, Op::Ret, [Reg::Word(5), X, X]) == Outcome::Ran);
-    let view = cpu.view();
-    assert!(rt; view.iptr == FOLLOWING && view.wptr == WORKSPACE && view.a == Reg::Word(5));
-    Ok(())
-}
-
-/// Loops with index 5: the count before, the index and the count after, and how far they go back.
-#[test]
-fn lend_counts(rt: HostRuntime) -> Result<(), Fail> {
-    let mut cpu = processor(&rt, rt.alloc())?;
-    let block = MOST_NEG + 0x300;
-    let table = [
-        (1, 5, 0, 0),
-        (2, 6, 1, 4),
-        (0, 5, MINUS_ONE, 0),
-        (MOST_NEG + 1, 5, MOST_NEG, 0),
-    ];
-    for (count, index, left, back) in table {
-        cpu.memory.set_word(block, 5).ok();
-        cpu.memory.set_word(block + 4, count).ok();
-        assert!(rt;
-            operate(
-                &mut cpu,
-                Op::Lend,
-                [Reg::Word(4), Reg::Word(block), Reg::Word(7)]
-            ) == Outcome::Ran
-        );
-        assert_eq!(rt; cpu.memory().word(block), Ok(index));
-        assert_eq!(rt; cpu.memory().word(block + 4), Ok(left));
-        assert!(rt;
-            registers(&cpu) == [X, X, X] && cpu.view().iptr == FOLLOWING.wrapping_sub(back)
-        );
-    }
-    Ok(())
-}
-
 /// The words of three workspaces.
 const ONE: u32 = MOST_NEG + 0x300;
 
@@ -184,38 +108,6 @@ fn processes_take_their_turns(rt: HostRuntime) -> Result<(), Fail> {
     cpu.front = X;
     cpu.wake(TWO);
     assert_eq!(rt; cpu.life(), Life::Stopped(Why::Undefined));
-    Ok(())
-}
-
-#[test]
-fn a_link_opens_its_engine(rt: HostRuntime) -> Result<(), Fail> {
-    let transfer = Transfer {
-        link: 1,
-        pointer: ONE,
-        count: 4,
-        process: WORKSPACE,
-    };
-    let outside = Outcome::Stopped(Why::Outside);
-    let table = [
-        (Op::In, 0x14, 0xFD, Outcome::OpensIn(transfer)),
-        (Op::Out, 0x04, 0xDF, Outcome::OpensOut(transfer)),
-        (Op::In, 0x14, 0x02, outside),
-        (Op::Out, 0x04, 0x20, outside),
-        (Op::In, 0x04, 0, outside),
-        (Op::In, 0x20, 0, outside),
-    ];
-    for (op, channel, busy, wanted) in table {
-        let mut cpu = processor(&rt, rt.alloc())?;
-        cpu.a = Reg::Word(4);
-        cpu.b = Reg::Word(MOST_NEG.wrapping_add(channel));
-        cpu.c = Reg::Word(ONE);
-        let outcome = run_with(&mut cpu, Fun::Opr, op_code(op), busy, false);
-        assert!(rt; outcome == wanted, "{channel}");
-        if outcome != outside {
-            assert_eq!(rt; cpu.life(), Life::Idle);
-            assert_eq!(rt; cpu.memory().word(WORKSPACE - 4), Ok(FOLLOWING));
-        }
-    }
     Ok(())
 }
 
@@ -259,47 +151,6 @@ fn meet(rt: &impl Abort, alloc: Global, first: Op, second: Op, to: u32) -> Resul
 fn two_processes_meet_on_a_channel(rt: HostRuntime) -> Result<(), Fail> {
     meet(&rt, rt.alloc(), Op::In, Op::Out, ONE)?;
     meet(&rt, rt.alloc(), Op::Out, Op::In, TWO)
-}
-
-/// Operations that stop a processor: the front of the queue, the registers and the cause.
-#[test]
-fn operations_stop_the_processor(rt: HostRuntime) -> Result<(), Fail> {
-    let empty = Reg::Word(NOT_PROCESS);
-    let table = [
-        (Op::Add, empty, Reg::Word(1), X, Why::Undefined),
-        (Op::Stopp, X, X, X, Why::Undefined),
-        (
-            Op::In,
-            X,
-            Reg::Word(0),
-            Reg::Word(MOST_NEG + 0x10),
-            Why::Undefined,
-        ),
-        (Op::In, X, Reg::Word(0), Reg::Word(MOST_NEG), Why::Outside),
-        (
-            Op::In,
-            empty,
-            Reg::Word(0),
-            Reg::Word(MOST_NEG + 0x10),
-            Why::Outside,
-        ),
-        (Op::Lb, empty, Reg::Word(MOST_NEG + 0x23), X, Why::Outside),
-        (Op::Runp, empty, Reg::Word(ONE), X, Why::Outside),
-        (Op::Seterr, empty, X, X, Why::Halted),
-        (Op::Div, empty, Reg::Word(0), Reg::Word(1), Why::Halted),
-    ];
-    for (op, front, a, b, why) in table {
-        let mut cpu = processor(&rt, rt.alloc())?;
-        cpu.front = front;
-        cpu.halt = true;
-        let outcome = operate(&mut cpu, op, [a, b, Reg::Word(0)]);
-        assert!(rt; outcome == Outcome::Stopped(why), "{op:?} {why:?}");
-        assert!(rt; registers(&cpu) == [a, b, Reg::Word(0)], "{op:?}");
-        assert_eq!(rt; cpu.life(), Life::Stopped(why));
-    }
-    let mut cpu = processor(&rt, rt.alloc())?;
-    assert!(rt; run(&mut cpu, Fun::Opr, 0x0E) == Outcome::Stopped(Why::BadOp));
-    Ok(())
 }
 
 #[test]

@@ -3,6 +3,8 @@ use Rattle.std.specs.Prelude.{◌≡◌, ◌==◌, ℕ, ◌+◌, ℤ, pos, ◌-�
 use Rattle.std.specs.List.{flat_map, list_any}
 use Rattle.tn_isa.specs.declared.functions.Fun.{Fun}
 use Rattle.tn_isa.specs.declared.functions.Fun.TheVariants.{Opr}
+use Rattle.tn_isa.specs.declared.operations.Op.{Op}
+use Rattle.tn_isa.specs.Operations.{operation_code}
 use Rattle.tn_prefix.specs.Coding.{coding, coding_length}
 
 -- an instruction as a table of code has it
@@ -11,8 +13,8 @@ pub data Instruction : Type 0 where
   direct : Fun → ℤ → Instruction
   -- a jump, and the offset that it goes to
   jump : Fun → ℕ → Instruction
-  -- an operation by its code
-  operation : ℕ → Instruction
+  -- an operation
+  operation : Op → Instruction
 
 -- a row of a table: an offset in bytes, and the instructions that stand there
 pub record Row : Type 0 where
@@ -42,7 +44,7 @@ jump_bytes f offset target None = []
 abbrev pub bytes_at : ℕ → Instruction → List ℕ
 bytes_at offset (direct f operand) = coding f operand
 bytes_at offset (jump f target) = jump_bytes f offset target (jump_size offset target)
-bytes_at offset (operation code) = coding Opr (pos code)
+bytes_at offset (operation op) = coding Opr (pos (operation_code op))
 
 -- the bytes of instructions that stand one after the other from an offset on
 unfoldable pub assembled_from : ℕ → List Instruction → List ℕ
@@ -62,7 +64,7 @@ StandAtOffsets table =
 abbrev pub goes_to : List ℕ → Instruction → Bool
 goes_to offsets (jump f target) = list_any (λ offset. offset == target) offsets
 goes_to offsets (direct f operand) = true
-goes_to offsets (operation code) = true
+goes_to offsets (operation op) = true
 
 -- each jump of a table goes to the offset of a row
 abbrev pub JumpToRows : List Row → Type 0

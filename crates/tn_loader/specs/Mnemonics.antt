@@ -2,6 +2,7 @@
 -- operation does stands in one line, with A, B and C the registers and W the workspace pointer.
 use Rattle.std.specs.Prelude.{ℕ, pos}
 use Rattle.tn_isa.specs.declared.functions.Fun.TheVariants.{J, Ldlp, Ldc, Ldnlp, Ldl, Cj, Ajw, Eqc, Stl, Stnl}
+use Rattle.tn_isa.specs.declared.operations.Op.TheVariants.{Rev, Diff, Gcall, In, Gt, Out, Sthf, Stlf, Testerr, Gajw, Mint, Sttimer, Clrhalterr}
 use Rattle.tn_loader.specs.Instructions.{Instruction, direct, jump, operation}
 
 -- jump
@@ -46,52 +47,52 @@ stnl n = direct Stnl (pos n)
 
 -- reverse: A and B are exchanged
 abbrev pub rev : Instruction
-rev = operation 0x00
+rev = operation Rev
 
 -- difference: B - A
 abbrev pub diff : Instruction
-diff = operation 0x04
+diff = operation Diff
 
 -- general call: A and the instruction pointer are exchanged
 abbrev pub gcall : Instruction
-gcall = operation 0x06
+gcall = operation Gcall
 
 -- the guide's `in`: A bytes come from channel B to address C
 abbrev pub input : Instruction
-input = operation 0x07
+input = operation In
 
 -- greater than: whether B > A
 abbrev pub gt : Instruction
-gt = operation 0x09
+gt = operation Gt
 
 -- the guide's `out`: A bytes go from address C to channel B
 abbrev pub output : Instruction
-output = operation 0x0B
+output = operation Out
 
 -- store high priority front pointer
 abbrev pub sthf : Instruction
-sthf = operation 0x18
+sthf = operation Sthf
 
 -- store low priority front pointer
 abbrev pub stlf : Instruction
-stlf = operation 0x1C
+stlf = operation Stlf
 
 -- test error flag and clear it
 abbrev pub testerr : Instruction
-testerr = operation 0x29
+testerr = operation Testerr
 
 -- general adjust workspace: A and W are exchanged
 abbrev pub gajw : Instruction
-gajw = operation 0x3C
+gajw = operation Gajw
 
 -- minimum integer: MostNeg
 abbrev pub mint : Instruction
-mint = operation 0x42
+mint = operation Mint
 
 -- store timer: the clocks start from A
 abbrev pub sttimer : Instruction
-sttimer = operation 0x54
+sttimer = operation Sttimer
 
 -- clear HaltOnError
 abbrev pub clrhalterr : Instruction
-clrhalterr = operation 0x57
+clrhalterr = operation Clrhalterr
