@@ -402,11 +402,11 @@ fn holds(cpu: &Cpu<Memory>, word: &str) -> Result<bool, Fail> {
 
 #[test]
 fn each_row_has_its_effect(rt: HostRuntime) -> Result<(), Fail> {
-    let mut lines = 0;
+    let mut lines: u32 = 0;
     for line in ROWS.lines() {
         if !line.is_empty() {
             run_line(&rt, &mut processor(rt.alloc())?, line)?;
-            lines += 1;
+            lines = lines.wrapping_add(1);
         }
     }
     assert_eq!(rt; lines, 165);
