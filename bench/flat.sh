@@ -3,26 +3,23 @@
 # the greater file. Linear work gives a ratio of the two times near 2. Run it once the program is
 # built: `cd crates/tn && rt run`.
 set -eu
+shopt -s inherit_errexit
 cd "$(dirname "$0")/.."
 tn=$PWD/crates/tn/out/tn
 [ -x "$tn" ] || { echo "no $tn: build it first"; exit 1; }
 work=$(mktemp -d)
 trap 'rm -rf "$work"' EXIT
 
-# 11 lines of each length of operand, padded to 1,024 bytes with lines of one length
+# lines with operands of each length and a comment, so many that their code is within the limit of
+# 262,144 bytes, and one line that pads the source to the greatest size
 awk 'BEGIN {
     split("ldc 0|ldl 15|stl 16|adc -1|ldc 255|ldnl -256|cj 4096|j -65537|ldc 16777215|call -2147483648|ldlp 2147483647", line, "|")
-    while (size < 1048576) {
-        for (i = 1; i <= 11; i++) {
-            rest = 1048576 - size
-            if (rest < 64) { pad = rest; break }
-            print line[i]
-            size += length(line[i]) + 1
-        }
-        if (rest < 64) break
+    for (i = 0; size < 1048576 - 64; i++) {
+        text = line[i % 11 + 1] " ; line"
+        print text
+        size += length(text) + 1
     }
-    while (pad >= 14) { print "ldc 0"; pad -= 6 }
-    printf "ldc %0*d\n", pad - 5, 1
+    printf "ldc 0 ;%*s\n", 1048576 - size - 8, ""
 }' > "$work/whole.txt"
 head -c 524288 "$work/whole.txt" | sed '$d' > "$work/half.txt"
 printf 'whole: %s bytes, half: %s bytes\n' "$(stat -c %s "$work/whole.txt")" "$(stat -c %s "$work/half.txt")"

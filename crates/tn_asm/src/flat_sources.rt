@@ -11,7 +11,7 @@ ghost use Rattle.tn_isa.specs.Mnemonics.{mnemonic_named};
 use crate::instructions::Instruction;
 use std::alloc::Global;
 use tn_isa::{Fun, Mnemonic, mnemonic_spelled, op_code};
-use tn_text::{Cause, FaultCode, ReadFault, is_ascii_line, next_line, number_at, tokens_of};
+use tn_text::{Cause, FaultCode, ReadFault, next_line, number_at, read_tokens};
 
 /// The instructions of a flat source. Each line says nothing, or is the mnemonic of a function and
 /// a number, or the name of an operation; comments, blanks and numbers are as in all texts. The
@@ -37,10 +37,7 @@ fn read_all(alloc: Global, text: &[u8]) -> Result<Vec<Instruction>, ReadFault>
     let mut number = 0;
     while let Some((line, behind)) = next_line(rest) {
         number += 1;
-        if !is_ascii_line(line) {
-            return Err(ReadFault::Fault(Cause::bare(FaultCode::NotAscii).at(number)));
-        }
-        let tokens = tokens_of(alloc, line)?;
+        let tokens = read_tokens(alloc, line, number)?;
         if !tokens.is_empty() {
             match instruction_said(&tokens) {
                 Ok(instruction) => instructions.push(instruction)?,

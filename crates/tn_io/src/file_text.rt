@@ -28,7 +28,7 @@ impl FileText {
     }
 
     /// The name as text.
-    pub fn as_str(&self) -> &str
+    pub(crate) fn as_str(&self) -> &str
         ensures { result.now ≡ self.now }
     {
         self.text.as_str()

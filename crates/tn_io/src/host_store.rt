@@ -107,7 +107,10 @@ fn read_whole<F: Read>(file: &mut F, limit: u64, into: &mut Vec<u8>) -> Result<(
 {
     let mut piece = [0u8; PIECE];
     for _ in 0..u64::MAX {
-        let Ok(count) = file.read(&mut piece) else {
+        let room = (limit + 1)
+            .saturating_sub(into.len() as u64)
+            .min(PIECE as u64) as usize;
+        let Ok(count) = file.read(&mut piece[..room]) else {
             return Err(GetFault::Failed);
         };
         if count == 0 {

@@ -16,7 +16,7 @@ pub const RUN: u32 = 2;
 /// The operation of a NOP, which does nothing; `x` and `n` are 0.
 pub const NOP: u32 = 3;
 
-/// The bytes of a command.
+/// How many bytes a command has.
 pub const COMMAND_SIZE: usize = 12;
 
 /// A command of the secondary loader: the words `op`, `x` and `n`, each with its lowest byte first.

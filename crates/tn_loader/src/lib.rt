@@ -5,7 +5,7 @@ mod commands;
 mod loaders;
 
 pub use commands::{COMMAND_SIZE, FORWARD, LOAD, NOP, RUN, command};
-pub use loaders::{CHUNK_SIZE, PRIMARY_SIZE, SECONDARY, SECONDARY_SIZE, primary, secondary};
+pub use loaders::{PRIMARY_SIZE, SECONDARY, SECONDARY_SIZE, primary, secondary};
 
 #[cfg(test)]
 mod tests {
@@ -58,7 +58,6 @@ mod tests {
 
     #[test]
     fn a_forward(rt: HostRuntime) {
-        assert_eq!(rt; CHUNK_SIZE, 128);
         let bytes = [1, 0, 0, 0, 0x0C, 0, 0, 0x80, 0xE0, 2, 0, 0];
         assert!(rt; command(FORWARD, 0x8000_000C, 736) == bytes);
     }

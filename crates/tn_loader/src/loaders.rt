@@ -3,14 +3,11 @@ ghost use Rattle.tn_loader.specs.Instructions.{assembled, StandAtOffsets, JumpTo
 ghost use Rattle.tn_loader.specs.Primary.{primary_bytes, primary_table};
 ghost use Rattle.tn_loader.specs.Secondary.{secondary_bytes, secondary_table};
 
-/// The bytes of the primary bootstrap. It is also the control byte that comes before it.
+/// How many bytes the primary bootstrap has. The control byte before it has this value too.
 pub const PRIMARY_SIZE: usize = 57;
 
-/// The bytes of the secondary loader. The word before it has this value.
+/// How many bytes the secondary loader has. The word before it has this value.
 pub const SECONDARY_SIZE: usize = 55;
-
-/// The most bytes of one chunk, in which a FORWARD reads and sends.
-pub const CHUNK_SIZE: u32 = 128;
 
 /// The code of the secondary loader, which takes commands from the boot link. It is this project's
 /// own, of instructions as "Transputer Instruction Set: a compiler writer's guide" codes them.

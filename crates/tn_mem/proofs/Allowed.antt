@@ -3,7 +3,7 @@ use Rattle.std.proofs.Common.{◌≡◌, ℕ, ◌+◌, ◌≤◌, List, [], ◌�
 use Rattle.std.specs.Int.{w32, to_le_bytes, from_le_bytes}
 use Rattle.std.proofs.lemmas.Bool.Decides.{nat_tests}
 use Rattle.tn_mem.specs.Memories.{most_neg, reachable, allows_block, allows_word, put, block, fetch, store_byte, load, store, test_block, copy_block}
-use Rattle.tn_mem.specs.Tests.{fits-reachable, reachable-fits, reachable-allows_word, allowed-answer_if, answer_if-allowed}
+use Rattle.tn_mem.specs.AccessTests.{fits-reachable, reachable-fits, reachable-allows_word, allowed-answer_if, answer_if-allowed}
 use Rattle.tn_mem.proofs.Puts.{IsInside, byte_at}
 
 -- ---- tests

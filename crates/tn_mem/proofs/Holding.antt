@@ -4,7 +4,7 @@ use Rattle.tn_mem.specs.declared.touches.Touch.{Touch}
 use Rattle.tn_mem.specs.Memories.{fetch, store_byte, load, store, test_block, copy_block, plain}
 use Rattle.tn_mem.specs.Guards.{Guarded, unless_met, over, guarded}
 use Rattle.tn_mem.specs.GuardLaws.{allowed-unless_met, unless_met-apart}
-use Rattle.tn_mem.specs.Tests.{allows_word-reachable}
+use Rattle.tn_mem.specs.AccessTests.{allows_word-reachable}
 use Rattle.tn_mem.specs.Holdings.{HoldsMemory}
 use Rattle.tn_mem.proofs.Allowed.{allowed-test_block, store_byte-allowed, store-allowed, copy_block-allowed}
 

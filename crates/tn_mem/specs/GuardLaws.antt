@@ -7,7 +7,7 @@ use Rattle.tn_mem.specs.declared.touches.Touch.TheVariants.{Outside, Code}
 use Rattle.tn_mem.specs.Spaces.{SameExtents, IsSpace, first_refusal}
 use Rattle.tn_mem.specs.Memories.{fetch, store_byte, load, store, test_block, copy_block}
 use Rattle.tn_mem.specs.Guards.{Guarded, meets, unless_met, over, guarded}
-use Rattle.tn_mem.specs.Tests.{meets-part, meets-empty}
+use Rattle.tn_mem.specs.AccessTests.{meets-part, meets-empty}
 use Rattle.tn_mem.specs.Laws.{plain_lawful, refusal-store, same_by_length, length-store_byte, length-store, length-copy_block}
 
 -- a refusal of the memory, or else Code where the access meets the region

@@ -8,7 +8,7 @@ use Rattle.std.proofs.lemmas.Bool.Decides.{nat_tests}
 use Rattle.std.proofs.Common.{arith}
 use Rattle.tn_mem.specs.Spaces.{SameExtents, IsSpace}
 use Rattle.tn_mem.specs.Memories.{most_neg, reachable, allows_block, allows_word, put, block, fetch, store_byte, load, store, test_block, copy_block, plain}
-use Rattle.tn_mem.specs.Tests.{fits-reachable, reachable-allows_word, allows_word-reachable, allows_block-part, allowed-answer_if, answer_if-allowed, refusal-answer_if, refusal-answer_if_aligned, refusal-answer_if_both}
+use Rattle.tn_mem.specs.AccessTests.{fits-reachable, reachable-allows_word, allows_word-reachable, allows_block-part, allowed-answer_if, answer_if-allowed, refusal-answer_if, refusal-answer_if_aligned, refusal-answer_if_both}
 
 -- a write inside a memory keeps its length
 pub length-put : (m : List ℕ) (a : ℕ) (bytes : List ℕ) → a - most_neg + length bytes ≤ length m → length (put m a bytes) ≡ length m

@@ -1,7 +1,7 @@
 //! Memory of a T425 and the accesses that a processor makes of it.
 //!
 //! A memory of `s` bytes has the addresses from MostNeg, #80000000, up to but not including
-//! MostNeg + `s`. Its words 0 to 8 belong to the links and the timers: no access reaches them.
+//! MostNeg + `s`. Its words 0 to 8 belong to the links and the event: no access reaches them.
 #![tactic(auto)]
 
 mod guards;

@@ -1,5 +1,5 @@
 -- Images of processors, as contracts see them.
-use Rattle.std.specs.Prelude.{ℕ, ◌^◌, ◌<◌, ◌≤◌, List, length, map, All}
+use Rattle.std.specs.Prelude.{ℕ, ◌^◌, ◌<◌, List, length, map, All}
 use Rattle.tn_stream.specs.declared.images.Segment.{Segment}
 use Rattle.tn_stream.specs.declared.images.Image.{Image}
 
@@ -26,10 +26,10 @@ segments_of segments = map segment_of segments
 abbrev pub image_of : Image → ImageBytes
 image_of i = record { segments = segments_of i.segments.items; entry = i.entry; wptr = i.wptr }
 
--- a segment that a LOAD can carry: not empty, and of at most a megabyte
+-- a segment that a LOAD can carry: not empty, and of fewer than 2 ^ 30 bytes
 pub record IsLoadable (s : SegmentBytes) : Type 0 where
   pub some : 0 < length s.bytes
-  pub bounded : length s.bytes ≤ 2 ^ 20
+  pub bounded : length s.bytes < 2 ^ 30
 
 -- every segment can be carried
 abbrev pub AreLoadable : List SegmentBytes → Type 0

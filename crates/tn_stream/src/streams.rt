@@ -13,7 +13,7 @@ use tn_word::word_bytes;
 /// Emits the stream that loads one processor, which boots by link `k`, and starts its program. It
 /// answers the number of bytes. The stream is made whole first, and goes out by one write.
 ///
-/// `k` is below 4. There is at most one segment, which is not empty and has at most 1,048,576 bytes.
+/// `k` is below 4. There is at most one segment, which is not empty and has fewer than 2^30 bytes.
 /// `Out` comes where the output refused the write, and `NoMemory`, with nothing emitted, where there
 /// was no memory for the stream.
 pub fn collect_one<E: Out>(

@@ -5,3 +5,4 @@ pub mod Walking
 pub mod Cutting
 pub mod ReadingLoops
 pub mod LineBytes
+pub mod Results

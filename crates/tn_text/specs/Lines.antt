@@ -1,11 +1,6 @@
--- The lines of texts, their numbers, and the tokens of a line.
+-- The bytes of lines, and the tokens of a line.
 use Rattle.std.specs.Prelude.{ℕ, Bool, not, ◌&&◌, ◌||◌, ◌==◌, nat_le, List, length, filter}
-use Rattle.std.specs.List.{list_all, slice_split, before_first, enumerate_from}
-use Rattle.std.specs.Str.Lines.{lines}
-
--- the lines of a text, each with its number
-abbrev pub numbered_lines : List ℕ → List (ℕ × List ℕ)
-numbered_lines text = enumerate_from 1 (lines text)
+use Rattle.std.specs.List.{list_all, slice_split, before_first}
 
 -- a byte that may stand in a line: a blank, a tab or a graphic character
 abbrev pub is_line_byte : ℕ → Bool

@@ -20,6 +20,10 @@ is_name_spelling (c ∷ cs) = begins_name c && list_all continues_name cs
 abbrev pub is_name_up_to : ℕ → List ℕ → Bool
 is_name_up_to limit bytes = is_name_spelling bytes && nat_le (length bytes) limit
 
+-- the most bytes that a name has
+abbrev pub name_limit : ℕ
+name_limit = 64
+
 -- a name
 abbrev pub is_name : List ℕ → Bool
-is_name bytes = is_name_up_to 64 bytes
+is_name bytes = is_name_up_to name_limit bytes

@@ -6,7 +6,7 @@ ghost use Rattle.std.specs.Hash as fed;
 ghost use Rattle.std.proofs.Common.{rules};
 ghost use Rattle.std.specs.List.{list_all};
 ghost use Rattle.tn_text.specs.HeldNames.{cells_of};
-ghost use Rattle.tn_text.specs.Names.{begins_name, continues_name, is_name_spelling, is_name_up_to, is_name};
+ghost use Rattle.tn_text.specs.Names.{begins_name, continues_name, is_name_spelling, is_name_up_to, name_limit, is_name};
 
 use std::fmt;
 use std::hash::{Hash, Hasher};
@@ -19,7 +19,7 @@ pub const NAME_LIMIT: usize = 64;
 /// Case matters. It takes no memory of an allocator.
 #[derive(Clone, Copy)]
 pub struct Name {
-    cells: [u8; 64],
+    cells: [u8; NAME_LIMIT],
     len: usize,
 }
 
@@ -56,7 +56,7 @@ impl Name {
     pub fn bytes(&self) -> &[u8]
         ensures bytes { result.now ≡ self.now }
         ensures valid { IsTrue (is_name self.now) }
-        ensures short { length self.now ≤ 64 }
+        ensures short { length self.now ≤ name_limit }
     {
         &self.cells[..self.len]
     }
@@ -95,7 +95,10 @@ impl Hash for Name {
 
 impl fmt::Debug for Name {
     fn fmt<W: fmt::Write>(&self, f: &mut fmt::Formatter<W>) -> fmt::Result {
-        fmt::Debug::fmt(&self.bytes(), f)
+        for byte in self.bytes() {
+            f.write_char(char::from(*byte))?;
+        }
+        Ok(())
     }
 }
 
@@ -118,11 +121,11 @@ pub fn is_name_spelling(bytes: &[u8]) -> bool
 }
 
 /// Bytes at the front of a name's cells.
-fn cells_of(bytes: &[u8]) -> [u8; 64]
-    requires { length bytes.now ≤ 64 }
+fn cells_of(bytes: &[u8]) -> [u8; NAME_LIMIT]
+    requires { length bytes.now ≤ name_limit }
     ensures { result ≡ cells_of bytes.now }
 {
-    let mut cells = [0; 64];
+    let mut cells = [0; NAME_LIMIT];
     cells[..bytes.len()].copy_from_slice(bytes);
     cells
 }

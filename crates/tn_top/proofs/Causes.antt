@@ -12,7 +12,7 @@ use Rattle.tn_top.specs.declared.refusals.Refusal.{Refusal}
 use Rattle.tn_top.specs.declared.refusals.Refusal.TheVariants as refusal
 use Rattle.tn_top.specs.Refusals.{end_status, end_line, refused_line}
 use Rattle.tn_top.specs.ErrLines.{IsLine}
-use Rattle.tn_top.specs.Words.{Asked, asked, source_of, target_of, flat, one}
+use Rattle.tn_top.specs.Words.{Asked, asked, source_of, target_of, Reads, Writes, flat, one}
 use Rattle.tn_top.specs.OneProcessor.{boot_stream}
 use Rattle.tn_top.specs.Answers.{Answer, usage, unread, fault, limit, done, Coded, coded, missing, too_long, too_much, faulty, code, source_answer, answer_to, answer, status_of}
 use Rattle.tn_top.specs.Outcomes.{Told, IfTold, Holds, HoldsPart, without, IsDone, CannotRead, Cause, NothingFailed, FilesAfter}
@@ -86,15 +86,15 @@ module _ (words : List (List ℕ)) (source target : List ℕ) (made : List ℕ �
   source_cause (Err refusal.NoMemory) h = tt
 
   -- the line of how it ended
-  source_line : {T : Type 0} (ended : Result T Refusal) → SourceEnds source target made before after ended → IsLine words before after (end_status ended) (end_line source target ended)
+  source_line : {T : Type 0} → Reads (asked words) source → Writes (asked words) target → (ended : Result T Refusal) → SourceEnds source target made before after ended → IsLine words before after (end_status ended) (end_line source target ended)
   unfolding SourceEnds refused_line
-  source_line (Ok x) h = refl
-  source_line (Err (refusal.Fault first)) h = more before.files (λ fs e. (source, first, e, refl)) (told_says (faulty first) h.1)
-  source_line (Err refusal.LongFile) h = more before.files (λ fs e. (codes "file", 1048577, e, refl)) (told_says too_long h.1)
-  source_line (Err (refusal.MuchCode count)) h = more before.files (λ fs e. (codes "code", count, e, refl)) (told_says (too_much count) h.1)
-  source_line (Err refusal.Unread) h = (source, cannot_read h.1, refl)
-  source_line (Err refusal.Unwritten) h = more before.files (λ fs e. (target, made h.1.0, [], e, refl)) (told_says (code h.1.0) h.1.1)
-  source_line (Err refusal.NoMemory) h = refl
+  source_line reads writes (Ok x) h = refl
+  source_line reads writes (Err (refusal.Fault first)) h = (source, first, reads, refl, told_says (faulty first) h.1)
+  source_line reads writes (Err refusal.LongFile) h = (codes "file", 1048577, refl, told_says too_long h.1)
+  source_line reads writes (Err (refusal.MuchCode count)) h = (codes "code", count, refl, told_says (too_much count) h.1)
+  source_line reads writes (Err refusal.Unread) h = (source, reads, refl, cannot_read h.1)
+  source_line reads writes (Err refusal.Unwritten) h = (target, writes, refl, more before.files (λ fs e. (made h.1.0, [], e)) (told_says (code h.1.0) h.1.1))
+  source_line reads writes (Err refusal.NoMemory) h = refl
 
   -- What an end says of the answer: its status is the answer's, or want of memory, or a failed write
   -- of an answer that was done.
@@ -222,6 +222,12 @@ module _ {T : Type 0} (words : List (List ℕ)) (before after : Stored) (ended :
   ends_closed (flat source target) h e = source_closed source target (λ bytes. bytes) before after ended h e
   ends_closed (one source target link) h e = source_closed source target (boot_stream link) before after ended h e
 
+  reads_source : (what : Asked) → Some what ≡ asked words → Reads (asked words) (source_of what)
+  reads_source what asks = subst (λ w. Reads w (source_of what)) asks refl
+
+  writes_target : (what : Asked) → Some what ≡ asked words → Writes (asked words) (target_of what)
+  writes_target what asks = subst (λ w. Writes w (target_of what)) asks refl
+
   pub ends_line : (what : Asked) → Some what ≡ asked words → Ends what before after ended → IsLine words before after (end_status ended) (end_line (source_of what) (target_of what) ended)
-  ends_line (flat source target) asks h = source_line words source target (λ bytes. bytes) (by_asked (Some (flat source target)) asks) before after ended h
-  ends_line (one source target link) asks h = source_line words source target (boot_stream link) (by_asked (Some (one source target link)) asks) before after ended h
+  ends_line (flat source target) asks h = source_line words source target (λ bytes. bytes) (by_asked (Some (flat source target)) asks) before after (reads_source (flat source target) asks) (writes_target (flat source target) asks) ended h
+  ends_line (one source target link) asks h = source_line words source target (boot_stream link) (by_asked (Some (one source target link)) asks) before after (reads_source (one source target link) asks) (writes_target (one source target link) asks) ended h

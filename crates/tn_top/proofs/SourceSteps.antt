@@ -9,7 +9,9 @@ use Rattle.tn_text.specs.declared.faults.Fault.{Fault}
 use Rattle.tn_text.specs.declared.faults.ReadFault.{ReadFault}
 use Rattle.tn_text.specs.declared.faults.ReadFault.TheVariants as read
 use Rattle.tn_text.specs.Reading.{Gives}
-use Rattle.tn_top.specs.Refusals.{refusal_of}
+use Rattle.tn_io.specs.declared.faults.PutFault.{PutFault}
+use Rattle.tn_io.specs.declared.faults.PutFault.TheVariants as put
+use Rattle.tn_top.specs.Refusals.{refusal_of, put_refusal}
 use Rattle.tn_asm.specs.FlatReading.{flat_read}
 use Rattle.tn_top.specs.declared.refusals.Refusal.{Refusal}
 use Rattle.tn_top.specs.declared.refusals.Refusal.TheVariants as refusal
@@ -65,12 +67,17 @@ module _ (source target : List ℕ) (made : List ℕ → List ℕ) (before read 
     ends-done x closed t = (closed, (bytes, is_code, from_before (Holds target (made bytes)) t))
 
     -- code that was not written
-    pub ends-unwritten : (T : Type 0) → Rose read.write_faults after.write_faults → Told read.files after.files (HoldsPart target (made bytes)) → SourceEnds {T = T} source target made before after (Err refusal.Unwritten)
+    ends-unwritten : (T : Type 0) → Rose read.write_faults after.write_faults → Told read.files after.files (HoldsPart target (made bytes)) → SourceEnds {T = T} source target made before after (Err refusal.Unwritten)
     unfolding SourceEnds
     ends-unwritten T rose t =
         (subst (λ n. Rose n after.write_faults) (ap (λ s. s.write_faults) same) rose, (bytes, is_code, from_before (HoldsPart target (made bytes)) t))
 
     -- code for which there was no memory to write it
-    pub ends-memory : (T : Type 0) → Told read.files after.files (HoldsPart target (made bytes)) → SourceEnds {T = T} source target made before after (Err refusal.NoMemory)
+    ends-memory : (T : Type 0) → Told read.files after.files (HoldsPart target (made bytes)) → SourceEnds {T = T} source target made before after (Err refusal.NoMemory)
     unfolding SourceEnds
     ends-memory T t = inr (bytes, is_code, from_before (HoldsPart target (made bytes)) t)
+
+    -- code that was not written, by the fault of the store
+    pub ends-put : (T : Type 0) (fault : PutFault) → (fault ≡ put.Failed → Rose read.write_faults after.write_faults) → Told read.files after.files (HoldsPart target (made bytes)) → SourceEnds {T = T} source target made before after (Err (put_refusal fault))
+    ends-put T put.Failed rose t = ends-unwritten T (rose refl) t
+    ends-put T put.NoMemory rose t = ends-memory T t

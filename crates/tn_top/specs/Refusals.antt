@@ -3,6 +3,8 @@ use Rattle.std.specs.Prelude.{ℕ, List, [], ◌++◌, Result, Ok, Err, codes}
 use Rattle.std.specs.Fmt.{decimal}
 use Rattle.tn_text.specs.declared.faults.ReadFault.{ReadFault}
 use Rattle.tn_text.specs.declared.faults.ReadFault.TheVariants as read
+use Rattle.tn_io.specs.declared.faults.PutFault.{PutFault}
+use Rattle.tn_io.specs.declared.faults.PutFault.TheVariants as put
 use Rattle.tn_text.specs.Words.{spaced}
 use Rattle.tn_text.specs.FaultLines.{fault_line}
 use Rattle.tn_top.specs.declared.statuses.Status.{Status}
@@ -33,6 +35,11 @@ memory_line = codes "no memory\n"
 abbrev pub refusal_of : ReadFault → Refusal
 refusal_of (read.Fault first) = refusal.Fault first
 refusal_of read.NoMemory = refusal.NoMemory
+
+-- why a command is refused whose file was not written
+abbrev pub put_refusal : PutFault → Refusal
+put_refusal put.Failed = refusal.Unwritten
+put_refusal put.NoMemory = refusal.NoMemory
 
 -- the status of a command that was refused
 abbrev pub refused_status : Refusal → Status

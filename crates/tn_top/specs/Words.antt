@@ -1,5 +1,5 @@
 -- The words of a command line.
-use Rattle.std.specs.Prelude.{ℕ, ◌-◌, ◌<◌, Bool, IsTrue, false, not, ◌&&◌, ◌==◌, nat_le, List, [], ◌∷◌, length, Option, Some, None, codes, if◌then◌else◌}
+use Rattle.std.specs.Prelude.{◌≡◌, ℕ, ◌-◌, ◌<◌, Bool, IsTrue, false, not, ◌&&◌, ◌==◌, nat_le, List, [], ◌∷◌, length, Option, Some, None, codes, if◌then◌else◌}
 use Rattle.std.specs.Option.{option_map}
 use Rattle.std.specs.Str.{bytes_eq}
 use Rattle.tn_text.specs.FileNames.{is_file_name}
@@ -50,6 +50,15 @@ source_of (one source target link) = source
 abbrev pub target_of : Asked → List ℕ
 target_of (flat source target) = target
 target_of (one source target link) = target
+
+-- the command that words ask for reads the file of this name, or writes it
+abbrev pub Reads : Option Asked → List ℕ → Type 0
+Reads None file = ⊥
+Reads (Some what) file = file ≡ source_of what
+
+abbrev pub Writes : Option Asked → List ℕ → Type 0
+Writes None file = ⊥
+Writes (Some what) file = file ≡ target_of what
 
 -- the files of a command have names of 1 to 255 bytes, and a link is below 4
 abbrev pub IsWithin : Asked → Type 0

@@ -14,12 +14,12 @@ use crate::err_lines::{tell, tell_usage};
 use crate::files::put_file;
 use crate::flat_source::code_of;
 use crate::one_processor::put_code_stream;
-use crate::refusals::{Refusal, refusal_of};
+use crate::refusals::Refusal;
 use crate::statuses::Status;
 use crate::words::{Command, command_of};
-use std::alloc::{AllocError, Global};
+use std::alloc::Global;
 use tn_asm::read_flat;
-use tn_io::{GetFault, Out, PutFault, Store};
+use tn_io::{GetFault, Out, Store};
 
 /// The most bytes that a file may have.
 const FILE_LIMIT: u64 = 1_048_576;
@@ -109,15 +109,9 @@ fn flat<S: Store>(alloc: Global, source: &str, target: &str, store: &mut S) -> R
     requires target { length target.now ≤ 255 }
     ensures { SourceEnds source.now target.now (λ bytes. bytes) (S.stored store.old) (S.stored store.new) result }
 {
-    let code = match flat_code(alloc, source, store) {
-        Ok(code) => code,
-        Err(refusal) => return Err(refusal),
-    };
-    match put_file(store, target, &code) {
-        Ok(()) => Ok(()),
-        Err(PutFault::Failed) => Err(Refusal::Unwritten),
-        Err(PutFault::NoMemory) => Err(Refusal::NoMemory),
-    }
+    let code = flat_code(alloc, source, store)?;
+    put_file(store, target, &code)?;
+    Ok(())
 }
 
 /// Turns the flat source in one file into the stream, in another, that boots one processor by a
@@ -134,15 +128,9 @@ fn one<S: Store>(
     requires link { link < 4 }
     ensures { SourceEnds source.now target.now (boot_stream link) (S.stored store.old) (S.stored store.new) result }
 {
-    let code = match flat_code(alloc, source, store) {
-        Ok(code) => code,
-        Err(refusal) => return Err(refusal),
-    };
-    match put_code_stream(alloc, store, target, link, code) {
-        Ok(()) => Ok(()),
-        Err(PutFault::Failed) => Err(Refusal::Unwritten),
-        Err(PutFault::NoMemory) => Err(Refusal::NoMemory),
-    }
+    let code = flat_code(alloc, source, store)?;
+    put_code_stream(alloc, store, target, link, code)?;
+    Ok(())
 }
 
 /// The code bytes of the flat source in a file.
@@ -169,13 +157,10 @@ fn code_of_text(alloc: Global, text: &[u8]) -> Result<Vec<u8>, Refusal>
     ensures within { IfOk result (λ bytes. vec_len bytes ≤ 262144) }
     ensures err { IfErr result (IsNoCode text.now) }
 {
-    let instructions = match read_flat(alloc, text) {
-        Ok(instructions) => instructions,
-        Err(fault) => return Err(refusal_of(fault)),
-    };
-    match code_of(alloc, &instructions) {
-        Ok(code) if code.len() > CODE_LIMIT => Err(Refusal::MuchCode(code.len() as u64)),
-        Ok(code) => Ok(code),
-        Err(AllocError) => Err(Refusal::NoMemory),
+    let instructions = read_flat(alloc, text)?;
+    let code = code_of(alloc, &instructions)?;
+    if code.len() > CODE_LIMIT {
+        return Err(Refusal::MuchCode(code.len() as u64));
     }
+    Ok(code)
 }

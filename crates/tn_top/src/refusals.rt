@@ -1,7 +1,9 @@
 ghost use Rattle.std.specs.Prelude.{◌≡◌};
-ghost use Rattle.tn_top.specs.Refusals.{refused_status, refusal_of};
+ghost use Rattle.tn_top.specs.Refusals.{refused_status};
 
 use crate::statuses::Status;
+use std::alloc::AllocError;
+use tn_io::PutFault;
 use tn_text::{Fault, ReadFault};
 
 /// Why a command ends without having done what it was asked for.
@@ -35,12 +37,41 @@ impl Refusal {
     }
 }
 
-/// The refusal of a command whose source could not be read as a text.
-pub fn refusal_of(fault: ReadFault) -> Refusal
-    ensures { result ≡ refusal_of fault }
-{
-    match fault {
-        ReadFault::Fault(first) => Refusal::Fault(first),
-        ReadFault::NoMemory => Refusal::NoMemory,
+impl From<ReadFault> for Refusal {
+    ghost use Rattle.std.specs.Prelude.{◌≡◌};
+    ghost use Rattle.tn_top.specs.Refusals.{refusal_of};
+
+    ghost from_gives = { λ fault refusal. refusal ≡ refusal_of fault };
+
+    fn from(fault: ReadFault) -> Refusal {
+        match fault {
+            ReadFault::Fault(first) => Refusal::Fault(first),
+            ReadFault::NoMemory => Refusal::NoMemory,
+        }
+    }
+}
+
+impl From<PutFault> for Refusal {
+    ghost use Rattle.std.specs.Prelude.{◌≡◌};
+    ghost use Rattle.tn_top.specs.Refusals.{put_refusal};
+
+    ghost from_gives = { λ fault refusal. refusal ≡ put_refusal fault };
+
+    fn from(fault: PutFault) -> Refusal {
+        match fault {
+            PutFault::Failed => Refusal::Unwritten,
+            PutFault::NoMemory => Refusal::NoMemory,
+        }
+    }
+}
+
+impl From<AllocError> for Refusal {
+    ghost use Rattle.std.specs.Prelude.{◌≡◌};
+    ghost use Rattle.tn_top.specs.declared.refusals.Refusal.TheVariants.{NoMemory};
+
+    ghost from_gives = { λ _ refusal. refusal ≡ NoMemory };
+
+    fn from(_error: AllocError) -> Refusal {
+        Refusal::NoMemory
     }
 }

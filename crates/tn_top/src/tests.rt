@@ -3,10 +3,12 @@ ghost use Rattle.tn_io.specs.FileLists.{HasDistinctNames};
 ghost use Rattle.tn_io.specs.MemStores.{files_of};
 
 use crate::{Status, code, run};
+use indexmap::IndexMap;
 use std::alloc::{AllocError, Global};
 use std::process::Abort;
 use std::test::Fail;
 use tn_io::{FileText, MemOut, MemStore};
+use tn_text::Name;
 
 /// The files of a store with one file.
 #[tactic(auto, unfolding(tn_io::specs::FileLists::held, tn_io::specs::FileLists::HasDistinctNames))]
@@ -292,5 +294,21 @@ fn code_of_the_greatest_size_is_written(rt: HostRuntime) -> Result<(), Fail> {
         let told = b"limit code 262145\n";
         expect(&rt, &ended, Status::Limit, None, told, "limit");
     }
+    Ok(())
+}
+
+#[test]
+fn names_are_keys_of_maps(rt: HostRuntime) -> Result<(), Fail> {
+    let (start, finish) = (
+        Name::of(b"start").ok_or("start")?,
+        Name::of(b"finish").ok_or("finish")?,
+    );
+    let mut places = IndexMap::new(rt.alloc());
+    places.insert(start.copied(), 1).ok().ok_or("no memory")?;
+    places.insert(finish.copied(), 2).ok().ok_or("no memory")?;
+    places.insert(start.copied(), 3).ok().ok_or("no memory")?;
+    assert!(rt; places.get(&start).copied() == Some(3));
+    assert!(rt; places.get(&finish).copied() == Some(2));
+    assert_eq!(rt; places.len(), 2);
     Ok(())
 }

@@ -3,6 +3,8 @@ ghost use Rattle.tn_text.specs.FileNames.{is_file_name};
 ghost use Rattle.std.specs.Option.{option_map};
 ghost use Rattle.tn_top.specs.Words.{is_file_word, link_named, flat_asked, one_asked, asked, seen, source_of, target_of, IsWithin};
 
+use tn_text::FILE_NAME_LIMIT;
+
 /// What the words of a command line ask for.
 #[derive(Clone, Copy)]
 pub enum Command<'a> {
@@ -95,6 +97,6 @@ fn is_file_word(word: &str) -> bool
     let bytes = word.as_bytes();
     match bytes {
         [] | [b'-', ..] => false,
-        [_, ..] => bytes.len() <= 255,
+        [_, ..] => bytes.len() <= FILE_NAME_LIMIT,
     }
 }

@@ -1,4 +1,4 @@
-use Rattle.std.proofs.Common.{◌≡◌, ◌-◌, ◌^◌, ◌<◌, ◌⊎◌, inl, inr, ◌++◌, Option, Some, IsSome, List, ℕ, codes, arith, rules}
+use Rattle.std.proofs.Common.{◌≡◌, ◌-◌, ◌^◌, ◌<◌, ◌⊎◌, inl, inr, ◌++◌, Option, Some, IsSome, ℕ, codes, arith, rules}
 use Rattle.tn_io.specs.Stores.{told}
 use Rattle.tn_io.specs.FileOuts.{over_file}
 use Rattle.tn_io.proofs.OpenFiles.{told-goes_on}
