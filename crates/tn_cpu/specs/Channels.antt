@@ -3,6 +3,7 @@ use Rattle.std.specs.Prelude.{ℕ, ◌+◌, ◌-◌, ◌/◌, ◌%◌, ◌^◌, 
 use Rattle.tn_mem.specs.declared.touches.Touch.{Touch}
 use Rattle.tn_mem.specs.declared.touches.Touch.TheVariants.{Outside, Code}
 use Rattle.tn_mem.specs.Spaces.{Access, first_refusal}
+use Rattle.tn_word.specs.Words.{not_process}
 use Rattle.tn_cpu.specs.declared.outcomes.Why.TheVariants.{Outside as WhyOutside}
 use Rattle.tn_cpu.specs.declared.outcomes.Transfer.{Transfer}
 use Rattle.tn_cpu.specs.declared.outcomes.Outcome.{Outcome}
@@ -12,7 +13,7 @@ use Rattle.tn_cpu.specs.declared.channels.Way.{Way}
 use Rattle.tn_cpu.specs.declared.channels.Way.TheVariants.{Input, Output}
 use Rattle.tn_cpu.specs.declared.channels.Channel.{Channel}
 use Rattle.tn_cpu.specs.declared.channels.Channel.TheVariants.{Link, Internal, NoChannel}
-use Rattle.tn_cpu.specs.States.{State, not_process, wrap, below, cleared}
+use Rattle.tn_cpu.specs.States.{State, wrap, below, cleared}
 use Rattle.tn_cpu.specs.Turns.{Ended, stopped, ran, with_word, with_three, unless_refused, unless_outside}
 use Rattle.tn_cpu.specs.Queues.{storable, loadable, block_refusal, stored, copied, word_at, or_then, enqueue_refusal, enqueued, next_refusal, next, saved, gave_way}
 
@@ -103,6 +104,6 @@ on_channel access way t count channel pointer Internal s =
     (internal access way t count channel pointer (word_at access s.memory channel) s)))
 
 -- in and out
-abbrev pub transfers : {M : Type 0} → Access M → Way → Turn → State M → Ended M
-transfers access way t s =
+abbrev pub transfer_row : {M : Type 0} → Access M → Way → Turn → State M → Ended M
+transfer_row access way t s =
     with_three s.a s.b s.c s (λ count channel pointer. on_channel access way t count channel pointer (channel_at way channel) s)
