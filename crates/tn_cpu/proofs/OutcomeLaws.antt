@@ -29,7 +29,7 @@ use Rattle.tn_alu.specs.Checked.{checked}
 use Rattle.tn_alu.specs.Divisions.{quotient, remainder}
 use Rattle.tn_alu.specs.Longs.{low_word, high_word, long_product, long_sum, low_difference, borrow_of}
 use Rattle.tn_alu.specs.Shifts.{shifted_left, shifted_right}
-use Rattle.tn_cpu.specs.declared.outcomes.Why.TheVariants.{Undefined as WhyUndefined, Outside as WhyOutside, Code as WhyCode, Halted, BadOp, Stray}
+use Rattle.tn_cpu.specs.declared.outcomes.Why.TheVariants.{Code as WhyCode, Halted}
 use Rattle.tn_cpu.specs.Rows.{is_loop_taken, call_row, startp_row, endp_row, runp_row, stopp_row, lend_row, move_row, endp_last, endp_other, frame_refusal, frame_stored, loop_refusal, loop_stored, loop_end}
 use Rattle.tn_cpu.specs.declared.outcomes.Transfer.{Transfer}
 use Rattle.tn_prefix.specs.Coding.{is_prefix}
@@ -38,7 +38,7 @@ use Rattle.tn_cpu.specs.Steps.{executed, execute_byte, step}
 use Rattle.std.specs.Result.{result_err}
 use Rattle.std.proofs.lemmas.Bool.Decides.{nat_tests}
 use Rattle.tn_cpu.specs.declared.outcomes.Outcome.{Outcome}
-use Rattle.tn_cpu.specs.declared.outcomes.Outcome.TheVariants.{Prefix, Ran, OpensIn, OpensOut, Stopped}
+use Rattle.tn_cpu.specs.declared.outcomes.Outcome.TheVariants.{Stopped}
 use Rattle.tn_cpu.specs.Turns.{why_of}
 use Rattle.tn_cpu.specs.OutcomeLaws.{IsLinkTransfer, OpensLink, IsNotStray, Answers, Refuses, AllRefusals, IsLaw}
 
@@ -319,9 +319,13 @@ module _ {M : Type 0} (access : Access M) (Kind : Touch → Type 0) (Law : Outco
   executed-keeps true byte busy slice clock s = holds.prefix
   executed-keeps false byte busy slice clock s = effect-keeps (function_of byte) (loaded s.oreg byte) (record { following = wrap (s.iptr + 1); busy = busy; slice = slice; clock = clock }) s
 
+  pub execute_byte-keeps : (byte busy : ℕ) (slice : Bool) (clock : ℕ) (s : State M) → Keeps (execute_byte access byte busy slice clock s)
+  unfolding execute_byte
+  execute_byte-keeps byte busy slice clock s = executed-keeps (is_prefix (function_of byte)) byte busy slice clock s
+
   pub step-keeps : (busy : ℕ) (slice : Bool) (clock : ℕ) (s : State M) → Keeps (step access busy slice clock s)
-  unfolding step execute_byte
-  step-keeps busy slice clock s = answer (access.byte s.memory s.iptr) (refusals.byte s.memory s.iptr) s (λ byte. execute_byte access byte busy slice clock s) (λ byte. executed-keeps (is_prefix (function_of byte)) byte busy slice clock s)
+  unfolding step
+  step-keeps busy slice clock s = answer (access.byte s.memory s.iptr) (refusals.byte s.memory s.iptr) s (λ byte. execute_byte access byte busy slice clock s) (λ byte. execute_byte-keeps byte busy slice clock s)
 
 -- ---- the laws
 
@@ -365,11 +369,17 @@ module _ {M : Type 0} (access : Access M) where
   pub effect-opens : (fun : Fun) (e : ℕ) (t : Turn) (s : State M) → OpensLink (effect access fun e t s).outcome
   effect-opens fun e t s = effect-keeps access (λ touch. ⊤) OpensLink (any_refusal access) opening fun e t s
 
+  pub execute_byte-opens : (byte busy : ℕ) (slice : Bool) (clock : ℕ) (s : State M) → OpensLink (execute_byte access byte busy slice clock s).outcome
+  execute_byte-opens byte busy slice clock s = execute_byte-keeps access (λ touch. ⊤) OpensLink (any_refusal access) opening byte busy slice clock s
+
   pub step-opens : (busy : ℕ) (slice : Bool) (clock : ℕ) (s : State M) → OpensLink (step access busy slice clock s).outcome
   step-opens busy slice clock s = step-keeps access (λ touch. ⊤) OpensLink (any_refusal access) opening busy slice clock s
 
   pub effect-not_stray : (fun : Fun) (e : ℕ) (t : Turn) (s : State M) → IsNotStray (effect access fun e t s).outcome
   effect-not_stray fun e t s = effect-keeps access (λ touch. ⊤) IsNotStray (any_refusal access) not_stray fun e t s
+
+  pub execute_byte-not_stray : (byte busy : ℕ) (slice : Bool) (clock : ℕ) (s : State M) → IsNotStray (execute_byte access byte busy slice clock s).outcome
+  execute_byte-not_stray byte busy slice clock s = execute_byte-keeps access (λ touch. ⊤) IsNotStray (any_refusal access) not_stray byte busy slice clock s
 
   pub step-not_stray : (busy : ℕ) (slice : Bool) (clock : ℕ) (s : State M) → IsNotStray (step access busy slice clock s).outcome
   step-not_stray busy slice clock s = step-keeps access (λ touch. ⊤) IsNotStray (any_refusal access) not_stray busy slice clock s

@@ -22,7 +22,7 @@ OpensLink (OpensIn transfer) = IsLinkTransfer transfer
 OpensLink (OpensOut transfer) = IsLinkTransfer transfer
 OpensLink _ = ⊤
 
--- the processor finds an instruction wherever it looks for one
+-- no instruction stops as stray: that is for what looks an instruction up before it executes it
 abbrev pub IsNotStray : Outcome → Type 0
 IsNotStray outcome = outcome ≢ Stopped Stray
 
