@@ -11,7 +11,7 @@ use Rattle.tn_isa.specs.declared.functions.Fun.TheVariants.{J, Ldlp, Pfix, Ldnl,
 use Rattle.tn_isa.specs.declared.operations.Op.{Op}
 use Rattle.tn_isa.specs.declared.operations.Op.TheVariants.{Rev, Lb, Bsub, Endp, Diff, Add, Gcall, In, Prod, Gt, Wsub, Out, Sub, Startp, Seterr, Csub0, Stopp, Sthf, Ldpi, Stlf, Xdble, Rem, Ret, Lend, Ldtimer, Testerr, Div, Lmul, Not, Xor, Bcnt, Lsum, Runp, Sb, Gajw, Wcnt, Shr, Shl, Mint, And, Move, Or, Ldiff, Sum, Mul, Sttimer, Clrhalterr, Sethalterr, Dup}
 use Rattle.tn_isa.specs.Operations.{operation_with}
-use Rattle.tn_word.specs.Words.{not_process}
+use Rattle.tn_word.specs.Words.{most_neg, not_process}
 use Rattle.tn_cpu.specs.declared.registers.Reg.{Reg}
 use Rattle.tn_cpu.specs.declared.registers.Reg.TheVariants.{Undefined, Word}
 use Rattle.tn_cpu.specs.declared.channels.Way.{Way}
@@ -52,7 +52,7 @@ link_below : (first a : ℕ) → (nat_le first a && nat_lt a (first + 16)) ≡ t
 link_below first a e = grind (arith, nat_tests)
 
 aligned-in_range : (first a : ℕ) → InRange (aligned_channel first a)
-aligned-in_range first a = by_test (nat_le first a && nat_lt a (first + 16)) (nat_le 0x80000000 a && nat_lt a 0x80000024) refl
+aligned-in_range first a = by_test (nat_le first a && nat_lt a (first + 16)) (nat_le most_neg a && nat_lt a (most_neg + 36)) refl
   where
     by_test : (is_link is_none : Bool) → (nat_le first a && nat_lt a (first + 16)) ≡ is_link → InRange (if is_link then Link ((a - first) / 4) else (if is_none then NoChannel else Internal))
     by_test true is_none e = link_below first a e

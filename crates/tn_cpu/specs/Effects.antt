@@ -15,7 +15,7 @@ use Rattle.tn_alu.specs.Checked.{checked}
 use Rattle.tn_alu.specs.Divisions.{quotient, remainder}
 use Rattle.tn_alu.specs.Longs.{low_word, high_word, long_product, long_sum, low_difference, borrow_of}
 use Rattle.tn_alu.specs.Shifts.{shifted_left, shifted_right}
-use Rattle.tn_word.specs.Words.{not_process}
+use Rattle.tn_word.specs.Words.{most_neg, not_process}
 use Rattle.tn_cpu.specs.declared.registers.Reg.TheVariants.{Word}
 use Rattle.tn_cpu.specs.declared.outcomes.Why.TheVariants.{BadOp}
 use Rattle.tn_cpu.specs.declared.channels.Way.TheVariants.{Input, Output}
@@ -79,7 +79,7 @@ operate access Gajw t s = with_word s.a s (λ a. unless_outside (not (a % 4 == 0
 operate access Wcnt t s = with_word s.a s (λ a. ran t.following (record s { a = Word (quarter a); b = Word (a % 4); c = s.b }))
 operate access Shr t s = with_two s.a s.b s (λ a b. joins (shifted_right b a) t.following s)
 operate access Shl t s = with_two s.a s.b s (λ a b. joins (shifted_left b a) t.following s)
-operate access Mint t s = ran t.following (pushed 0x80000000 s)
+operate access Mint t s = ran t.following (pushed most_neg s)
 operate access And t s = with_two s.a s.b s (λ a b. joins (plain (bit_and b a)) t.following s)
 operate access Move t s = move_row access t s
 operate access Or t s = with_two s.a s.b s (λ a b. joins (plain (bit_or b a)) t.following s)
