@@ -3,3 +3,5 @@ pub mod Chains
 pub mod PrimaryRuns
 pub mod Words
 pub mod Stops
+pub mod OutcomeLaws
+pub mod WordBytes

@@ -9,6 +9,7 @@ use Rattle.tn_isa.specs.declared.functions.Fun.TheVariants.{J, Ldlp, Pfix, Ldnl,
 use Rattle.tn_isa.specs.declared.operations.Op.{Op}
 use Rattle.tn_isa.specs.declared.operations.Op.TheVariants.{Rev, Lb, Bsub, Endp, Diff, Add, Gcall, In, Prod, Gt, Wsub, Out, Sub, Startp, Seterr, Csub0, Stopp, Sthf, Ldpi, Stlf, Xdble, Rem, Ret, Lend, Ldtimer, Testerr, Div, Lmul, Not, Xor, Bcnt, Lsum, Runp, Sb, Gajw, Wcnt, Shr, Shl, Mint, And, Move, Or, Ldiff, Sum, Mul, Sttimer, Clrhalterr, Sethalterr, Dup}
 use Rattle.tn_isa.specs.Operations.{operation_with}
+use Rattle.tn_word.specs.Words.{not_process}
 use Rattle.tn_cpu.specs.declared.registers.Reg.{Reg}
 use Rattle.tn_cpu.specs.declared.registers.Reg.TheVariants.{Undefined, Word}
 use Rattle.tn_cpu.specs.declared.channels.Way.{Way}
@@ -16,10 +17,10 @@ use Rattle.tn_cpu.specs.declared.channels.Way.TheVariants.{Input, Output}
 use Rattle.tn_cpu.specs.declared.channels.Channel.{Channel}
 use Rattle.tn_cpu.specs.declared.channels.Channel.TheVariants.{Link, Internal, NoChannel}
 use Rattle.tn_cpu.specs.declared.turns.Turn.{Turn}
-use Rattle.tn_cpu.specs.States.{State, not_process, cleared, wrap, words_above, pushed, popped, popped_twice, replaced, filled, below, joined, register_of}
+use Rattle.tn_cpu.specs.States.{State, cleared, wrap, words_above, pushed, popped, popped_twice, replaced, filled, below, joined, register_of}
 use Rattle.tn_cpu.specs.Turns.{Ended, ran, with_word, with_answer, unless_refused, unless_outside, setting_error, joins, replaces}
 use Rattle.tn_cpu.specs.Queues.{enqueued_behind, enqueued, next_from, next, slice_refusal, ran_or_sliced, storable, loadable, stored, word_at, enqueue_refusal, next_refusal, saved, gave_way}
-use Rattle.tn_cpu.specs.Channels.{channel_at, on_channel, transfers, linked, waiting, exchanged}
+use Rattle.tn_cpu.specs.Channels.{channel_at, on_channel, transfer_row, linked, waiting, exchanged}
 use Rattle.tn_cpu.specs.Effects.{operate, operate_found, effect, plain, truth, quarter}
 use Rattle.tn_cpu.specs.Codes.{placed, begun_at}
 use Rattle.tn_alu.specs.Words.{signed}
@@ -27,7 +28,7 @@ use Rattle.tn_alu.specs.Checked.{checked}
 use Rattle.tn_alu.specs.Divisions.{quotient, remainder}
 use Rattle.tn_alu.specs.Longs.{low_word, high_word, long_product, long_sum, low_difference, borrow_of}
 use Rattle.tn_alu.specs.Shifts.{shifted_left, shifted_right}
-use Rattle.tn_cpu.specs.Rows.{calls, starts, ends, runs, stops, loops, moves, ends_last, ends_other, frame_refusal, frame_stored, loop_refusal, loop_stored, loop_end}
+use Rattle.tn_cpu.specs.Rows.{call_row, startp_row, endp_row, runp_row, stopp_row, lend_row, move_row, endp_last, endp_other, frame_refusal, frame_stored, loop_refusal, loop_stored, loop_end}
 use Rattle.tn_cpu.specs.declared.outcomes.Outcome.TheVariants.{Ran, OpensIn, OpensOut}
 
 module _ {M : Type 0} (oreg iptr : ℕ) where
@@ -92,51 +93,51 @@ module _ {M : Type 0} (oreg iptr : ℕ) where
       (refused _ s _ _ (gives_way access front (waiting access t.following channel pointer s) e))
       (outside _ s _ _ (refused _ s _ _ (ran_enqueued access (word_at access s.memory channel - 1) t.following (record s { memory = stored access (exchanged access way count pointer (word_at access s.memory (below (word_at access s.memory channel - 1) 12)) s.memory) channel not_process })))))))
 
-  transfer : (access : Access M) (way : Way) (t : Turn) (s : State M) → transfers access way t (placed oreg iptr s) ≡ begun_at oreg iptr (transfers access way t s)
+  transfer : (access : Access M) (way : Way) (t : Turn) (s : State M) → transfer_row access way t (placed oreg iptr s) ≡ begun_at oreg iptr (transfer_row access way t s)
   transfer access way t s = word s.a s _ _ (λ count a. word s.b s _ _ (λ channel b. word s.c s _ _ (λ pointer c. on access way t count channel pointer (channel_at way channel) s)))
 
-  calls-placed : (access : Access M) (operand : ℕ) (t : Turn) (s : State M) → calls access operand t (placed oreg iptr s) ≡ begun_at oreg iptr (calls access operand t s)
-  calls-placed access operand t s =
+  call_row-placed : (access : Access M) (operand : ℕ) (t : Turn) (s : State M) → call_row access operand t (placed oreg iptr s) ≡ begun_at oreg iptr (call_row access operand t s)
+  call_row-placed access operand t s =
       refused (frame_refusal access s.memory (below s.wptr 16)) s (ran (wrap (t.following + operand)) (record (placed oreg iptr s) { memory = frame_stored access (below s.wptr 16) t.following s.a s.b s.c s.memory; wptr = below s.wptr 16; a = Word t.following; b = Undefined; c = Undefined })) (ran (wrap (t.following + operand)) (record s { memory = frame_stored access (below s.wptr 16) t.following s.a s.b s.c s.memory; wptr = below s.wptr 16; a = Word t.following; b = Undefined; c = Undefined })) (refl)
 
-  starts-placed : (access : Access M) (t : Turn) (s : State M) → starts access t (placed oreg iptr s) ≡ begun_at oreg iptr (starts access t s)
-  starts-placed access t s =
+  startp_row-placed : (access : Access M) (t : Turn) (s : State M) → startp_row access t (placed oreg iptr s) ≡ begun_at oreg iptr (startp_row access t s)
+  startp_row-placed access t s =
       word (s.a) s (λ process. with_word s.b (placed oreg iptr s) (λ offset. with_word s.front (placed oreg iptr s) (λ front. unless_refused (first_refusal (storable access s.memory (below process 4)) (enqueue_refusal access s.memory s.front s.back)) (placed oreg iptr s) (ran t.following (cleared (enqueued access process (record (placed oreg iptr s) { memory = stored access s.memory (below process 4) (wrap (t.following + offset)) }))))))) (λ process. with_word s.b s (λ offset. with_word s.front s (λ front. unless_refused (first_refusal (storable access s.memory (below process 4)) (enqueue_refusal access s.memory s.front s.back)) s (ran t.following (cleared (enqueued access process (record s { memory = stored access s.memory (below process 4) (wrap (t.following + offset)) }))))))) (λ process is_process. word (s.b) s (λ offset. with_word s.front (placed oreg iptr s) (λ front. unless_refused (first_refusal (storable access s.memory (below process 4)) (enqueue_refusal access s.memory s.front s.back)) (placed oreg iptr s) (ran t.following (cleared (enqueued access process (record (placed oreg iptr s) { memory = stored access s.memory (below process 4) (wrap (t.following + offset)) })))))) (λ offset. with_word s.front s (λ front. unless_refused (first_refusal (storable access s.memory (below process 4)) (enqueue_refusal access s.memory s.front s.back)) s (ran t.following (cleared (enqueued access process (record s { memory = stored access s.memory (below process 4) (wrap (t.following + offset)) })))))) (λ offset is_offset. word (s.front) s (λ front. unless_refused (first_refusal (storable access s.memory (below process 4)) (enqueue_refusal access s.memory s.front s.back)) (placed oreg iptr s) (ran t.following (cleared (enqueued access process (record (placed oreg iptr s) { memory = stored access s.memory (below process 4) (wrap (t.following + offset)) }))))) (λ front. unless_refused (first_refusal (storable access s.memory (below process 4)) (enqueue_refusal access s.memory s.front s.back)) s (ran t.following (cleared (enqueued access process (record s { memory = stored access s.memory (below process 4) (wrap (t.following + offset)) }))))) (λ front is_front. refused (first_refusal (storable access s.memory (below process 4)) (enqueue_refusal access s.memory s.front s.back)) s (ran t.following (cleared (enqueued access process (record (placed oreg iptr s) { memory = stored access s.memory (below process 4) (wrap (t.following + offset)) })))) (ran t.following (cleared (enqueued access process (record s { memory = stored access s.memory (below process 4) (wrap (t.following + offset)) })))) (ran_enqueued access process (t.following) (record s { memory = stored access s.memory (below process 4) (wrap (t.following + offset)) })))))
 
-  ends_last-placed : (access : Access M) (w : ℕ) (count : ℕ) (s : State M) → ends_last access w count (placed oreg iptr s) ≡ begun_at oreg iptr (ends_last access w count s)
-  ends_last-placed access w count s =
+  endp_last-placed : (access : Access M) (w : ℕ) (count : ℕ) (s : State M) → endp_last access w count (placed oreg iptr s) ≡ begun_at oreg iptr (endp_last access w count s)
+  endp_last-placed access w count s =
       refused (loadable access s.memory w) s (ran (word_at access s.memory w) (cleared (record (placed oreg iptr s) { memory = stored access s.memory (words_above w 1) (below count 1); wptr = w }))) (ran (word_at access s.memory w) (cleared (record s { memory = stored access s.memory (words_above w 1) (below count 1); wptr = w }))) (refl)
 
-  ends_other-placed : (access : Access M) (w : ℕ) (count : ℕ) (s : State M) → ends_other access w count (placed oreg iptr s) ≡ begun_at oreg iptr (ends_other access w count s)
-  ends_other-placed access w count s =
+  endp_other-placed : (access : Access M) (w : ℕ) (count : ℕ) (s : State M) → endp_other access w count (placed oreg iptr s) ≡ begun_at oreg iptr (endp_other access w count s)
+  endp_other-placed access w count s =
       word (s.front) s (λ front. unless_refused (next_refusal access s.memory s.front s.back) (placed oreg iptr s) (gave_way access (record (placed oreg iptr s) { memory = stored access s.memory (words_above w 1) (below count 1) }))) (λ front. unless_refused (next_refusal access s.memory s.front s.back) s (gave_way access (record s { memory = stored access s.memory (words_above w 1) (below count 1) }))) (λ front is_front. refused (next_refusal access s.memory s.front s.back) s (gave_way access (record (placed oreg iptr s) { memory = stored access s.memory (words_above w 1) (below count 1) })) (gave_way access (record s { memory = stored access s.memory (words_above w 1) (below count 1) })) (gives_way access front (record s { memory = stored access s.memory (words_above w 1) (below count 1) }) is_front))
 
-  ends-placed : (access : Access M) (s : State M) → ends access (placed oreg iptr s) ≡ begun_at oreg iptr (ends access s)
-  ends-placed access s =
-      word (s.a) s (λ w. unless_refused (storable access s.memory (words_above w 1)) (placed oreg iptr s) (if word_at access s.memory (words_above w 1) == 1 then ends_last access w (word_at access s.memory (words_above w 1)) (placed oreg iptr s) else ends_other access w (word_at access s.memory (words_above w 1)) (placed oreg iptr s))) (λ w. unless_refused (storable access s.memory (words_above w 1)) s (if word_at access s.memory (words_above w 1) == 1 then ends_last access w (word_at access s.memory (words_above w 1)) s else ends_other access w (word_at access s.memory (words_above w 1)) s)) (λ w is_w. refused (storable access s.memory (words_above w 1)) s (if word_at access s.memory (words_above w 1) == 1 then ends_last access w (word_at access s.memory (words_above w 1)) (placed oreg iptr s) else ends_other access w (word_at access s.memory (words_above w 1)) (placed oreg iptr s)) (if word_at access s.memory (words_above w 1) == 1 then ends_last access w (word_at access s.memory (words_above w 1)) s else ends_other access w (word_at access s.memory (words_above w 1)) s) (either (word_at access s.memory (words_above w 1) == 1) (ends_last access w (word_at access s.memory (words_above w 1)) (placed oreg iptr s)) (ends_last access w (word_at access s.memory (words_above w 1)) s) (ends_other access w (word_at access s.memory (words_above w 1)) (placed oreg iptr s)) (ends_other access w (word_at access s.memory (words_above w 1)) s) (ends_last-placed access w (word_at access s.memory (words_above w 1)) s) (ends_other-placed access w (word_at access s.memory (words_above w 1)) s)))
+  endp_row-placed : (access : Access M) (s : State M) → endp_row access (placed oreg iptr s) ≡ begun_at oreg iptr (endp_row access s)
+  endp_row-placed access s =
+      word (s.a) s (λ w. unless_refused (storable access s.memory (words_above w 1)) (placed oreg iptr s) (if word_at access s.memory (words_above w 1) == 1 then endp_last access w (word_at access s.memory (words_above w 1)) (placed oreg iptr s) else endp_other access w (word_at access s.memory (words_above w 1)) (placed oreg iptr s))) (λ w. unless_refused (storable access s.memory (words_above w 1)) s (if word_at access s.memory (words_above w 1) == 1 then endp_last access w (word_at access s.memory (words_above w 1)) s else endp_other access w (word_at access s.memory (words_above w 1)) s)) (λ w is_w. refused (storable access s.memory (words_above w 1)) s (if word_at access s.memory (words_above w 1) == 1 then endp_last access w (word_at access s.memory (words_above w 1)) (placed oreg iptr s) else endp_other access w (word_at access s.memory (words_above w 1)) (placed oreg iptr s)) (if word_at access s.memory (words_above w 1) == 1 then endp_last access w (word_at access s.memory (words_above w 1)) s else endp_other access w (word_at access s.memory (words_above w 1)) s) (either (word_at access s.memory (words_above w 1) == 1) (endp_last access w (word_at access s.memory (words_above w 1)) (placed oreg iptr s)) (endp_last access w (word_at access s.memory (words_above w 1)) s) (endp_other access w (word_at access s.memory (words_above w 1)) (placed oreg iptr s)) (endp_other access w (word_at access s.memory (words_above w 1)) s) (endp_last-placed access w (word_at access s.memory (words_above w 1)) s) (endp_other-placed access w (word_at access s.memory (words_above w 1)) s)))
 
-  runs-placed : (access : Access M) (t : Turn) (s : State M) → runs access t (placed oreg iptr s) ≡ begun_at oreg iptr (runs access t s)
-  runs-placed access t s =
+  runp_row-placed : (access : Access M) (t : Turn) (s : State M) → runp_row access t (placed oreg iptr s) ≡ begun_at oreg iptr (runp_row access t s)
+  runp_row-placed access t s =
       word (s.a) s (λ a. with_word s.front (placed oreg iptr s) (λ front. unless_outside (not (a % 4 == 1)) (placed oreg iptr s) (unless_refused (enqueue_refusal access s.memory s.front s.back) (placed oreg iptr s) (ran t.following (cleared (enqueued access (below a 1) (placed oreg iptr s))))))) (λ a. with_word s.front s (λ front. unless_outside (not (a % 4 == 1)) s (unless_refused (enqueue_refusal access s.memory s.front s.back) s (ran t.following (cleared (enqueued access (below a 1) s)))))) (λ a is_a. word (s.front) s (λ front. unless_outside (not (a % 4 == 1)) (placed oreg iptr s) (unless_refused (enqueue_refusal access s.memory s.front s.back) (placed oreg iptr s) (ran t.following (cleared (enqueued access (below a 1) (placed oreg iptr s)))))) (λ front. unless_outside (not (a % 4 == 1)) s (unless_refused (enqueue_refusal access s.memory s.front s.back) s (ran t.following (cleared (enqueued access (below a 1) s))))) (λ front is_front. outside (not (a % 4 == 1)) s (unless_refused (enqueue_refusal access s.memory s.front s.back) (placed oreg iptr s) (ran t.following (cleared (enqueued access (below a 1) (placed oreg iptr s))))) (unless_refused (enqueue_refusal access s.memory s.front s.back) s (ran t.following (cleared (enqueued access (below a 1) s)))) (refused (enqueue_refusal access s.memory s.front s.back) s (ran t.following (cleared (enqueued access (below a 1) (placed oreg iptr s)))) (ran t.following (cleared (enqueued access (below a 1) s))) (ran_enqueued access (below a 1) (t.following) s))))
 
-  stops-placed : (access : Access M) (t : Turn) (s : State M) → stops access t (placed oreg iptr s) ≡ begun_at oreg iptr (stops access t s)
-  stops-placed access t s =
+  stopp_row-placed : (access : Access M) (t : Turn) (s : State M) → stopp_row access t (placed oreg iptr s) ≡ begun_at oreg iptr (stopp_row access t s)
+  stopp_row-placed access t s =
       word (s.front) s (λ front. unless_refused (first_refusal (storable access s.memory (below s.wptr 4)) (next_refusal access s.memory s.front s.back)) (placed oreg iptr s) (gave_way access (saved access t.following (placed oreg iptr s)))) (λ front. unless_refused (first_refusal (storable access s.memory (below s.wptr 4)) (next_refusal access s.memory s.front s.back)) s (gave_way access (saved access t.following s))) (λ front is_front. refused (first_refusal (storable access s.memory (below s.wptr 4)) (next_refusal access s.memory s.front s.back)) s (gave_way access (saved access t.following (placed oreg iptr s))) (gave_way access (saved access t.following s)) (gives_way access front (saved access t.following s) is_front))
 
-  loops-placed : (access : Access M) (t : Turn) (s : State M) → loops access t (placed oreg iptr s) ≡ begun_at oreg iptr (loops access t s)
+  lend_row-placed : (access : Access M) (t : Turn) (s : State M) → lend_row access t (placed oreg iptr s) ≡ begun_at oreg iptr (lend_row access t s)
   unfolding slice_refusal
-  loops-placed access t s =
+  lend_row-placed access t s =
       word (s.a) s (λ back. with_word s.b (placed oreg iptr s) (λ w. unless_refused (first_refusal (loop_refusal access w s.memory) (slice_refusal access t.slice (placed oreg iptr s))) (placed oreg iptr s) (ran_or_sliced access t.slice (loop_end (word_at access s.memory (words_above w 1)) back t.following) (cleared (record (placed oreg iptr s) { memory = loop_stored access w (word_at access s.memory (words_above w 1)) s.memory }))))) (λ back. with_word s.b s (λ w. unless_refused (first_refusal (loop_refusal access w s.memory) (slice_refusal access t.slice s)) s (ran_or_sliced access t.slice (loop_end (word_at access s.memory (words_above w 1)) back t.following) (cleared (record s { memory = loop_stored access w (word_at access s.memory (words_above w 1)) s.memory }))))) (λ back is_back. word (s.b) s (λ w. unless_refused (first_refusal (loop_refusal access w s.memory) (slice_refusal access t.slice (placed oreg iptr s))) (placed oreg iptr s) (ran_or_sliced access t.slice (loop_end (word_at access s.memory (words_above w 1)) back t.following) (cleared (record (placed oreg iptr s) { memory = loop_stored access w (word_at access s.memory (words_above w 1)) s.memory })))) (λ w. unless_refused (first_refusal (loop_refusal access w s.memory) (slice_refusal access t.slice s)) s (ran_or_sliced access t.slice (loop_end (word_at access s.memory (words_above w 1)) back t.following) (cleared (record s { memory = loop_stored access w (word_at access s.memory (words_above w 1)) s.memory })))) (λ w is_w. refused (first_refusal (loop_refusal access w s.memory) (slice_refusal access t.slice s)) s (ran_or_sliced access t.slice (loop_end (word_at access s.memory (words_above w 1)) back t.following) (cleared (record (placed oreg iptr s) { memory = loop_stored access w (word_at access s.memory (words_above w 1)) s.memory }))) (ran_or_sliced access t.slice (loop_end (word_at access s.memory (words_above w 1)) back t.following) (cleared (record s { memory = loop_stored access w (word_at access s.memory (words_above w 1)) s.memory }))) (refl)))
 
-  moves-placed : (access : Access M) (t : Turn) (s : State M) → moves access t (placed oreg iptr s) ≡ begun_at oreg iptr (moves access t s)
-  moves-placed access t s =
+  move_row-placed : (access : Access M) (t : Turn) (s : State M) → move_row access t (placed oreg iptr s) ≡ begun_at oreg iptr (move_row access t s)
+  move_row-placed access t s =
       word (s.a) s (λ count. with_word s.b (placed oreg iptr s) (λ to. with_word s.c (placed oreg iptr s) (λ from. with_answer (access.copy s.memory from to count) (placed oreg iptr s) (λ m. ran t.following (cleared (record (placed oreg iptr s) { memory = m })))))) (λ count. with_word s.b s (λ to. with_word s.c s (λ from. with_answer (access.copy s.memory from to count) s (λ m. ran t.following (cleared (record s { memory = m })))))) (λ count is_count. word (s.b) s (λ to. with_word s.c (placed oreg iptr s) (λ from. with_answer (access.copy s.memory from to count) (placed oreg iptr s) (λ m. ran t.following (cleared (record (placed oreg iptr s) { memory = m }))))) (λ to. with_word s.c s (λ from. with_answer (access.copy s.memory from to count) s (λ m. ran t.following (cleared (record s { memory = m }))))) (λ to is_to. word (s.c) s (λ from. with_answer (access.copy s.memory from to count) (placed oreg iptr s) (λ m. ran t.following (cleared (record (placed oreg iptr s) { memory = m })))) (λ from. with_answer (access.copy s.memory from to count) s (λ m. ran t.following (cleared (record s { memory = m })))) (λ from is_from. answer (access.copy s.memory from to count) s (λ m. ran t.following (cleared (record (placed oreg iptr s) { memory = m }))) (λ m. ran t.following (cleared (record s { memory = m }))) (λ m. refl))))
 
   pub operate-placed : (access : Access M) (op : Op) (t : Turn) (s : State M) → operate access op t (placed oreg iptr s) ≡ begun_at oreg iptr (operate access op t s)
   operate-placed access Rev t s = refl
   operate-placed access Lb t s = word (s.a) s (λ a. with_answer (access.byte s.memory a) (placed oreg iptr s) (λ x. ran t.following (replaced x (placed oreg iptr s)))) (λ a. with_answer (access.byte s.memory a) s (λ x. ran t.following (replaced x s))) (λ a is_a. answer (access.byte s.memory a) s (λ x. ran t.following (replaced x (placed oreg iptr s))) (λ x. ran t.following (replaced x s)) (λ x. refl))
   operate-placed access Bsub t s = word (s.a) s (λ a. with_word s.b (placed oreg iptr s) (λ b. joins (plain (a + b)) t.following (placed oreg iptr s))) (λ a. with_word s.b s (λ b. joins (plain (a + b)) t.following s)) (λ a is_a. word (s.b) s (λ b. joins (plain (a + b)) t.following (placed oreg iptr s)) (λ b. joins (plain (a + b)) t.following s) (λ b is_b. set_error (plain (a + b)).error (t.following) s (joined (register_of (plain (a + b)).value) s)))
-  operate-placed access Endp t s = ends-placed access s
+  operate-placed access Endp t s = endp_row-placed access s
   operate-placed access Diff t s = word (s.a) s (λ a. with_word s.b (placed oreg iptr s) (λ b. joins (plain (b + (2 ^ 32 - a))) t.following (placed oreg iptr s))) (λ a. with_word s.b s (λ b. joins (plain (b + (2 ^ 32 - a))) t.following s)) (λ a is_a. word (s.b) s (λ b. joins (plain (b + (2 ^ 32 - a))) t.following (placed oreg iptr s)) (λ b. joins (plain (b + (2 ^ 32 - a))) t.following s) (λ b is_b. set_error (plain (b + (2 ^ 32 - a))).error (t.following) s (joined (register_of (plain (b + (2 ^ 32 - a))).value) s)))
   operate-placed access Add t s = word (s.a) s (λ a. with_word s.b (placed oreg iptr s) (λ b. joins (checked (signed b +ℤ signed a)) t.following (placed oreg iptr s))) (λ a. with_word s.b s (λ b. joins (checked (signed b +ℤ signed a)) t.following s)) (λ a is_a. word (s.b) s (λ b. joins (checked (signed b +ℤ signed a)) t.following (placed oreg iptr s)) (λ b. joins (checked (signed b +ℤ signed a)) t.following s) (λ b is_b. set_error (checked (signed b +ℤ signed a)).error (t.following) s (joined (register_of (checked (signed b +ℤ signed a)).value) s)))
   operate-placed access Gcall t s = word (s.a) s (λ a. ran a (replaced t.following (placed oreg iptr s))) (λ a. ran a (replaced t.following s)) (λ a is_a. refl)
@@ -146,17 +147,17 @@ module _ {M : Type 0} (oreg iptr : ℕ) where
   operate-placed access Wsub t s = word (s.a) s (λ a. with_word s.b (placed oreg iptr s) (λ b. joins (plain (a + 4 * b)) t.following (placed oreg iptr s))) (λ a. with_word s.b s (λ b. joins (plain (a + 4 * b)) t.following s)) (λ a is_a. word (s.b) s (λ b. joins (plain (a + 4 * b)) t.following (placed oreg iptr s)) (λ b. joins (plain (a + 4 * b)) t.following s) (λ b is_b. set_error (plain (a + 4 * b)).error (t.following) s (joined (register_of (plain (a + 4 * b)).value) s)))
   operate-placed access Out t s = transfer access Output t s
   operate-placed access Sub t s = word (s.a) s (λ a. with_word s.b (placed oreg iptr s) (λ b. joins (checked (signed b -ℤ signed a)) t.following (placed oreg iptr s))) (λ a. with_word s.b s (λ b. joins (checked (signed b -ℤ signed a)) t.following s)) (λ a is_a. word (s.b) s (λ b. joins (checked (signed b -ℤ signed a)) t.following (placed oreg iptr s)) (λ b. joins (checked (signed b -ℤ signed a)) t.following s) (λ b is_b. set_error (checked (signed b -ℤ signed a)).error (t.following) s (joined (register_of (checked (signed b -ℤ signed a)).value) s)))
-  operate-placed access Startp t s = starts-placed access t s
+  operate-placed access Startp t s = startp_row-placed access t s
   operate-placed access Seterr t s = set_error true (t.following) s s
   operate-placed access Csub0 t s = word (s.a) s (λ a. with_word s.b (placed oreg iptr s) (λ b. setting_error (nat_le a b) t.following (placed oreg iptr s) (popped (placed oreg iptr s)))) (λ a. with_word s.b s (λ b. setting_error (nat_le a b) t.following s (popped s))) (λ a is_a. word (s.b) s (λ b. setting_error (nat_le a b) t.following (placed oreg iptr s) (popped (placed oreg iptr s))) (λ b. setting_error (nat_le a b) t.following s (popped s)) (λ b is_b. set_error (nat_le a b) (t.following) s (popped s)))
-  operate-placed access Stopp t s = stops-placed access t s
+  operate-placed access Stopp t s = stopp_row-placed access t s
   operate-placed access Sthf t s = word (s.a) s (λ a. unless_outside (not (a == not_process)) (placed oreg iptr s) (ran t.following (popped (placed oreg iptr s)))) (λ a. unless_outside (not (a == not_process)) s (ran t.following (popped s))) (λ a is_a. outside (not (a == not_process)) s (ran t.following (popped (placed oreg iptr s))) (ran t.following (popped s)) (refl))
   operate-placed access Ldpi t s = word (s.a) s (λ a. ran t.following (replaced (wrap (t.following + a)) (placed oreg iptr s))) (λ a. ran t.following (replaced (wrap (t.following + a)) s)) (λ a is_a. refl)
   operate-placed access Stlf t s = word (s.a) s (λ a. unless_outside (not (a == not_process)) (placed oreg iptr s) (ran t.following (record (popped (placed oreg iptr s)) { front = Word a }))) (λ a. unless_outside (not (a == not_process)) s (ran t.following (record (popped s) { front = Word a }))) (λ a is_a. outside (not (a == not_process)) s (ran t.following (record (popped (placed oreg iptr s)) { front = Word a })) (ran t.following (record (popped s) { front = Word a })) (refl))
   operate-placed access Xdble t s = word (s.a) s (λ a. ran t.following (record (placed oreg iptr s) { b = Word (if nat_le 0x80000000 a then 0xFFFFFFFF else 0); c = s.b })) (λ a. ran t.following (record s { b = Word (if nat_le 0x80000000 a then 0xFFFFFFFF else 0); c = s.b })) (λ a is_a. refl)
   operate-placed access Rem t s = word (s.a) s (λ a. with_word s.b (placed oreg iptr s) (λ b. joins (remainder b a) t.following (placed oreg iptr s))) (λ a. with_word s.b s (λ b. joins (remainder b a) t.following s)) (λ a is_a. word (s.b) s (λ b. joins (remainder b a) t.following (placed oreg iptr s)) (λ b. joins (remainder b a) t.following s) (λ b is_b. set_error (remainder b a).error (t.following) s (joined (register_of (remainder b a).value) s)))
   operate-placed access Ret t s = answer (access.word s.memory s.wptr) s (λ iptr. ran iptr (record (placed oreg iptr s) { wptr = words_above s.wptr 4 })) (λ iptr. ran iptr (record s { wptr = words_above s.wptr 4 })) (λ iptr. refl)
-  operate-placed access Lend t s = loops-placed access t s
+  operate-placed access Lend t s = lend_row-placed access t s
   operate-placed access Ldtimer t s = refl
   operate-placed access Testerr t s = refl
   operate-placed access Div t s = word (s.a) s (λ a. with_word s.b (placed oreg iptr s) (λ b. joins (quotient b a) t.following (placed oreg iptr s))) (λ a. with_word s.b s (λ b. joins (quotient b a) t.following s)) (λ a is_a. word (s.b) s (λ b. joins (quotient b a) t.following (placed oreg iptr s)) (λ b. joins (quotient b a) t.following s) (λ b is_b. set_error (quotient b a).error (t.following) s (joined (register_of (quotient b a).value) s)))
@@ -165,7 +166,7 @@ module _ {M : Type 0} (oreg iptr : ℕ) where
   operate-placed access Xor t s = word (s.a) s (λ a. with_word s.b (placed oreg iptr s) (λ b. joins (plain (bit_xor b a)) t.following (placed oreg iptr s))) (λ a. with_word s.b s (λ b. joins (plain (bit_xor b a)) t.following s)) (λ a is_a. word (s.b) s (λ b. joins (plain (bit_xor b a)) t.following (placed oreg iptr s)) (λ b. joins (plain (bit_xor b a)) t.following s) (λ b is_b. set_error (plain (bit_xor b a)).error (t.following) s (joined (register_of (plain (bit_xor b a)).value) s)))
   operate-placed access Bcnt t s = word (s.a) s (λ a. ran t.following (replaced (wrap (4 * a)) (placed oreg iptr s))) (λ a. ran t.following (replaced (wrap (4 * a)) s)) (λ a is_a. refl)
   operate-placed access Lsum t s = word (s.a) s (λ a. with_word s.b (placed oreg iptr s) (λ b. with_word s.c (placed oreg iptr s) (λ c. ran t.following (filled (low_word (long_sum a b c)) (high_word (long_sum a b c)) (placed oreg iptr s))))) (λ a. with_word s.b s (λ b. with_word s.c s (λ c. ran t.following (filled (low_word (long_sum a b c)) (high_word (long_sum a b c)) s)))) (λ a is_a. word (s.b) s (λ b. with_word s.c (placed oreg iptr s) (λ c. ran t.following (filled (low_word (long_sum a b c)) (high_word (long_sum a b c)) (placed oreg iptr s)))) (λ b. with_word s.c s (λ c. ran t.following (filled (low_word (long_sum a b c)) (high_word (long_sum a b c)) s))) (λ b is_b. word (s.c) s (λ c. ran t.following (filled (low_word (long_sum a b c)) (high_word (long_sum a b c)) (placed oreg iptr s))) (λ c. ran t.following (filled (low_word (long_sum a b c)) (high_word (long_sum a b c)) s)) (λ c is_c. refl)))
-  operate-placed access Runp t s = runs-placed access t s
+  operate-placed access Runp t s = runp_row-placed access t s
   operate-placed access Sb t s = word (s.a) s (λ a. with_word s.b (placed oreg iptr s) (λ b. with_answer (access.set_byte s.memory a (b % 256)) (placed oreg iptr s) (λ m. ran t.following (popped_twice (record (placed oreg iptr s) { memory = m }))))) (λ a. with_word s.b s (λ b. with_answer (access.set_byte s.memory a (b % 256)) s (λ m. ran t.following (popped_twice (record s { memory = m }))))) (λ a is_a. word (s.b) s (λ b. with_answer (access.set_byte s.memory a (b % 256)) (placed oreg iptr s) (λ m. ran t.following (popped_twice (record (placed oreg iptr s) { memory = m })))) (λ b. with_answer (access.set_byte s.memory a (b % 256)) s (λ m. ran t.following (popped_twice (record s { memory = m })))) (λ b is_b. answer (access.set_byte s.memory a (b % 256)) s (λ m. ran t.following (popped_twice (record (placed oreg iptr s) { memory = m }))) (λ m. ran t.following (popped_twice (record s { memory = m }))) (λ m. refl)))
   operate-placed access Gajw t s = word (s.a) s (λ a. unless_outside (not (a % 4 == 0)) (placed oreg iptr s) (ran t.following (record (placed oreg iptr s) { a = Word s.wptr; wptr = a }))) (λ a. unless_outside (not (a % 4 == 0)) s (ran t.following (record s { a = Word s.wptr; wptr = a }))) (λ a is_a. outside (not (a % 4 == 0)) s (ran t.following (record (placed oreg iptr s) { a = Word s.wptr; wptr = a })) (ran t.following (record s { a = Word s.wptr; wptr = a })) (refl))
   operate-placed access Wcnt t s = word (s.a) s (λ a. ran t.following (record (placed oreg iptr s) { a = Word (quarter a); b = Word (a % 4); c = s.b })) (λ a. ran t.following (record s { a = Word (quarter a); b = Word (a % 4); c = s.b })) (λ a is_a. refl)
@@ -173,7 +174,7 @@ module _ {M : Type 0} (oreg iptr : ℕ) where
   operate-placed access Shl t s = word (s.a) s (λ a. with_word s.b (placed oreg iptr s) (λ b. joins (shifted_left b a) t.following (placed oreg iptr s))) (λ a. with_word s.b s (λ b. joins (shifted_left b a) t.following s)) (λ a is_a. word (s.b) s (λ b. joins (shifted_left b a) t.following (placed oreg iptr s)) (λ b. joins (shifted_left b a) t.following s) (λ b is_b. set_error (shifted_left b a).error (t.following) s (joined (register_of (shifted_left b a).value) s)))
   operate-placed access Mint t s = refl
   operate-placed access And t s = word (s.a) s (λ a. with_word s.b (placed oreg iptr s) (λ b. joins (plain (bit_and b a)) t.following (placed oreg iptr s))) (λ a. with_word s.b s (λ b. joins (plain (bit_and b a)) t.following s)) (λ a is_a. word (s.b) s (λ b. joins (plain (bit_and b a)) t.following (placed oreg iptr s)) (λ b. joins (plain (bit_and b a)) t.following s) (λ b is_b. set_error (plain (bit_and b a)).error (t.following) s (joined (register_of (plain (bit_and b a)).value) s)))
-  operate-placed access Move t s = moves-placed access t s
+  operate-placed access Move t s = move_row-placed access t s
   operate-placed access Or t s = word (s.a) s (λ a. with_word s.b (placed oreg iptr s) (λ b. joins (plain (bit_or b a)) t.following (placed oreg iptr s))) (λ a. with_word s.b s (λ b. joins (plain (bit_or b a)) t.following s)) (λ a is_a. word (s.b) s (λ b. joins (plain (bit_or b a)) t.following (placed oreg iptr s)) (λ b. joins (plain (bit_or b a)) t.following s) (λ b is_b. set_error (plain (bit_or b a)).error (t.following) s (joined (register_of (plain (bit_or b a)).value) s)))
   operate-placed access Ldiff t s = word (s.a) s (λ a. with_word s.b (placed oreg iptr s) (λ b. with_word s.c (placed oreg iptr s) (λ c. ran t.following (filled (low_difference a b c) (borrow_of a b c) (placed oreg iptr s))))) (λ a. with_word s.b s (λ b. with_word s.c s (λ c. ran t.following (filled (low_difference a b c) (borrow_of a b c) s)))) (λ a is_a. word (s.b) s (λ b. with_word s.c (placed oreg iptr s) (λ c. ran t.following (filled (low_difference a b c) (borrow_of a b c) (placed oreg iptr s)))) (λ b. with_word s.c s (λ c. ran t.following (filled (low_difference a b c) (borrow_of a b c) s))) (λ b is_b. word (s.c) s (λ c. ran t.following (filled (low_difference a b c) (borrow_of a b c) (placed oreg iptr s))) (λ c. ran t.following (filled (low_difference a b c) (borrow_of a b c) s)) (λ c is_c. refl)))
   operate-placed access Sum t s = word (s.a) s (λ a. with_word s.b (placed oreg iptr s) (λ b. joins (plain (b + a)) t.following (placed oreg iptr s))) (λ a. with_word s.b s (λ b. joins (plain (b + a)) t.following s)) (λ a is_a. word (s.b) s (λ b. joins (plain (b + a)) t.following (placed oreg iptr s)) (λ b. joins (plain (b + a)) t.following s) (λ b is_b. set_error (plain (b + a)).error (t.following) s (joined (register_of (plain (b + a)).value) s)))
@@ -198,7 +199,7 @@ module _ {M : Type 0} (oreg iptr : ℕ) where
   effect-placed access Nfix e t s = refl
   effect-placed access Ldl e t s = answer (access.word s.memory (words_above s.wptr e)) s (λ x. ran t.following (pushed x (placed oreg iptr s))) (λ x. ran t.following (pushed x s)) (λ x. refl)
   effect-placed access Adc e t s = word (s.a) s (λ a. replaces (checked (signed a +ℤ signed e)) t.following (placed oreg iptr s)) (λ a. replaces (checked (signed a +ℤ signed e)) t.following s) (λ a is_a. set_error (checked (signed a +ℤ signed e)).error (t.following) s (record s { a = register_of (checked (signed a +ℤ signed e)).value }))
-  effect-placed access Call e t s = calls-placed access e t s
+  effect-placed access Call e t s = call_row-placed access e t s
   effect-placed access Cj e t s = word (s.a) s (λ a. if a == 0 then ran (wrap (t.following + e)) (placed oreg iptr s) else ran t.following (popped (placed oreg iptr s))) (λ a. if a == 0 then ran (wrap (t.following + e)) s else ran t.following (popped s)) (λ a is_a. either (a == 0) (ran (wrap (t.following + e)) (placed oreg iptr s)) (ran (wrap (t.following + e)) s) (ran t.following (popped (placed oreg iptr s))) (ran t.following (popped s)) (refl) (refl))
   effect-placed access Ajw e t s = refl
   effect-placed access Eqc e t s = word (s.a) s (λ a. ran t.following (replaced (truth (a == e)) (placed oreg iptr s))) (λ a. ran t.following (replaced (truth (a == e)) s)) (λ a is_a. refl)

@@ -3,6 +3,7 @@ use Rattle.std.specs.Prelude.{ℕ, ◌+◌, ◌-◌, ◌/◌, ◌%◌, ◌^◌, 
 use Rattle.tn_mem.specs.declared.touches.Touch.{Touch}
 use Rattle.tn_mem.specs.declared.touches.Touch.TheVariants.{Outside, Code}
 use Rattle.tn_mem.specs.Spaces.{Access, first_refusal}
+use Rattle.tn_word.specs.Words.{most_neg, not_process}
 use Rattle.tn_cpu.specs.declared.outcomes.Why.TheVariants.{Outside as WhyOutside}
 use Rattle.tn_cpu.specs.declared.outcomes.Transfer.{Transfer}
 use Rattle.tn_cpu.specs.declared.outcomes.Outcome.{Outcome}
@@ -12,14 +13,14 @@ use Rattle.tn_cpu.specs.declared.channels.Way.{Way}
 use Rattle.tn_cpu.specs.declared.channels.Way.TheVariants.{Input, Output}
 use Rattle.tn_cpu.specs.declared.channels.Channel.{Channel}
 use Rattle.tn_cpu.specs.declared.channels.Channel.TheVariants.{Link, Internal, NoChannel}
-use Rattle.tn_cpu.specs.States.{State, not_process, wrap, below, cleared}
+use Rattle.tn_cpu.specs.States.{State, wrap, below, cleared}
 use Rattle.tn_cpu.specs.Turns.{Ended, stopped, ran, with_word, with_three, unless_refused, unless_outside}
 use Rattle.tn_cpu.specs.Queues.{storable, loadable, block_refusal, stored, copied, word_at, or_then, enqueue_refusal, enqueued, next_refusal, next, saved, gave_way}
 
 -- the channel word of link 0; those of links 1 to 3 follow it
 abbrev pub first_link : Way → ℕ
-first_link Input = 0x80000010
-first_link Output = 0x80000000
+first_link Input = most_neg + 16
+first_link Output = most_neg
 
 -- a channel word at a multiple of 4 is one of the four links of its direction, or a word of
 -- memory; words 0 to 8 are otherwise no channels
@@ -27,7 +28,7 @@ abbrev pub aligned_channel : ℕ → ℕ → Channel
 aligned_channel first a =
     if nat_le first a && nat_lt a (first + 16)
     then Link ((a - first) / 4)
-    else (if nat_le 0x80000000 a && nat_lt a 0x80000024 then NoChannel else Internal)
+    else (if nat_le most_neg a && nat_lt a (most_neg + 36) then NoChannel else Internal)
 
 unfoldable pub channel_at : Way → ℕ → Channel
 channel_at way a = if a % 4 == 0 then aligned_channel (first_link way) a else NoChannel
@@ -103,6 +104,6 @@ on_channel access way t count channel pointer Internal s =
     (internal access way t count channel pointer (word_at access s.memory channel) s)))
 
 -- in and out
-abbrev pub transfers : {M : Type 0} → Access M → Way → Turn → State M → Ended M
-transfers access way t s =
+abbrev pub transfer_row : {M : Type 0} → Access M → Way → Turn → State M → Ended M
+transfer_row access way t s =
     with_three s.a s.b s.c s (λ count channel pointer. on_channel access way t count channel pointer (channel_at way channel) s)

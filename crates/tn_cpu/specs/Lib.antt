@@ -7,3 +7,4 @@ pub mod Effects
 pub mod Steps
 pub mod Codes
 pub mod Primaries
+pub mod OutcomeLaws

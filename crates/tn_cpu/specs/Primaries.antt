@@ -3,6 +3,7 @@ use Rattle.std.specs.Prelude.{ℕ, zero, suc, Bool, false, List, [], ◌∷◌, 
 use Rattle.tn_mem.specs.Spaces.{Access}
 use Rattle.tn_mem.specs.Memories.{put}
 use Rattle.tn_loader.specs.Primary.{primary_bytes}
+use Rattle.tn_word.specs.Words.{not_process}
 use Rattle.tn_cpu.specs.declared.registers.Reg.TheVariants.{Undefined, Word}
 use Rattle.tn_cpu.specs.declared.outcomes.Life.TheVariants.{Idle}
 use Rattle.tn_cpu.specs.declared.outcomes.Outcome.TheVariants.{OpensIn}
@@ -15,9 +16,9 @@ unfoldable pub after_steps : {M : Type 0} → Access M → Bool → ℕ → ℕ 
 after_steps access slice clock zero s = s
 after_steps access slice clock (suc n) s = after_steps access slice clock n (step access 0 slice clock s).state
 
--- a memory of 192 bytes, which are 0 but for the primary at MemStart
+-- a memory of 4096 bytes, which are 0 but for the primary at MemStart
 unfoldable pub primary_memory : ℕ → List ℕ
-primary_memory k = replicate 112 0 ++ (primary_bytes k ++ replicate 23 0)
+primary_memory k = replicate 112 0 ++ (primary_bytes k ++ replicate 3927 0)
 
 -- MostNeg as bytes in memory
 abbrev pub most_neg_bytes : List ℕ
@@ -33,6 +34,6 @@ primary_waits k =
 abbrev pub at_first_input : ℕ → Ended (List ℕ)
 at_first_input k =
     record {
-      state = record { memory = primary_waits k; a = Undefined; b = Undefined; c = Undefined; oreg = 0; iptr = 0; wptr = 0; front = Word 0x80000000; back = 0; error = false; halt = false; life = Idle };
+      state = record { memory = primary_waits k; a = Undefined; b = Undefined; c = Undefined; oreg = 0; iptr = 0; wptr = 0; front = Word not_process; back = 0; error = false; halt = false; life = Idle };
       outcome = OpensIn (record { link = k; pointer = 0x800000BC; count = 4; process = 0x800000BC });
     }

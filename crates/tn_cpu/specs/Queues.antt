@@ -5,13 +5,14 @@ use Rattle.std.specs.Result.{result_err, result_unwrap_or}
 use Rattle.tn_mem.specs.declared.touches.Touch.{Touch}
 use Rattle.tn_mem.specs.declared.touches.Touch.TheVariants.{Outside}
 use Rattle.tn_mem.specs.Spaces.{Access, first_refusal}
+use Rattle.tn_word.specs.Words.{not_process}
 use Rattle.tn_cpu.specs.declared.registers.Reg.{Reg}
 use Rattle.tn_cpu.specs.declared.registers.Reg.TheVariants.{Undefined, Word}
 use Rattle.tn_cpu.specs.declared.outcomes.Life.{Life}
 use Rattle.tn_cpu.specs.declared.outcomes.Life.TheVariants.{Running, Idle, Stopped}
 use Rattle.tn_cpu.specs.declared.outcomes.Outcome.TheVariants.{Ran}
 use Rattle.tn_cpu.specs.declared.outcomes.Why.TheVariants.{Undefined as WhyUndefined}
-use Rattle.tn_cpu.specs.States.{State, not_process, below, cleared}
+use Rattle.tn_cpu.specs.States.{State, below, cleared}
 use Rattle.tn_cpu.specs.Turns.{Ended, halted_for, goes_on, why_of}
 
 -- ---- words that a row tests before its first store, and then loads and stores

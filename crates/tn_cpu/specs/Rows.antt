@@ -21,48 +21,48 @@ abbrev pub frame_stored : {M : Type 0} → Access M → ℕ → ℕ → Reg → 
 frame_stored access w following a b c m =
     stored access (stored access (stored access (stored access m w following) (words_above w 1) (word_or_0 a)) (words_above w 2) (word_or_0 b)) (words_above w 3) (word_or_0 c)
 
-abbrev pub calls : {M : Type 0} → Access M → ℕ → Turn → State M → Ended M
-calls access operand t s =
+abbrev pub call_row : {M : Type 0} → Access M → ℕ → Turn → State M → Ended M
+call_row access operand t s =
     unless_refused (frame_refusal access s.memory (below s.wptr 16)) s
     (ran (wrap (t.following + operand)) (record s { memory = frame_stored access (below s.wptr 16) t.following s.a s.b s.c s.memory; wptr = below s.wptr 16; a = Word t.following; b = Undefined; c = Undefined }))
 
 -- ---- startp, endp, runp, stopp
 
 -- a new process, whose workspace is A, begins B bytes after the next instruction
-abbrev pub starts : {M : Type 0} → Access M → Turn → State M → Ended M
-starts access t s =
+abbrev pub startp_row : {M : Type 0} → Access M → Turn → State M → Ended M
+startp_row access t s =
     with_two s.a s.b s (λ process offset. with_word s.front s (λ front.
     unless_refused (first_refusal (storable access s.memory (below process 4)) (enqueue_refusal access s.memory s.front s.back)) s
     (ran t.following (cleared (enqueued access process (record s { memory = stored access s.memory (below process 4) (wrap (t.following + offset)) }))))))
 
 -- endp of the last of them
-abbrev pub ends_last : {M : Type 0} → Access M → ℕ → ℕ → State M → Ended M
-ends_last access w count s =
+abbrev pub endp_last : {M : Type 0} → Access M → ℕ → ℕ → State M → Ended M
+endp_last access w count s =
     unless_refused (loadable access s.memory w) s
     (ran (word_at access s.memory w) (cleared (record s { memory = stored access s.memory (words_above w 1) (below count 1); wptr = w })))
 
 -- endp of any other one
-abbrev pub ends_other : {M : Type 0} → Access M → ℕ → ℕ → State M → Ended M
-ends_other access w count s =
+abbrev pub endp_other : {M : Type 0} → Access M → ℕ → ℕ → State M → Ended M
+endp_other access w count s =
     with_word s.front s (λ front. unless_refused (next_refusal access s.memory s.front s.back) s
     (gave_way access (record s { memory = stored access s.memory (words_above w 1) (below count 1) })))
 
 -- the last of the processes that share the word at A + 4 goes on at A, and any other one is over
-abbrev pub ends : {M : Type 0} → Access M → State M → Ended M
-ends access s =
+abbrev pub endp_row : {M : Type 0} → Access M → State M → Ended M
+endp_row access s =
     with_word s.a s (λ w. unless_refused (storable access s.memory (words_above w 1)) s
-    (if word_at access s.memory (words_above w 1) == 1 then ends_last access w (word_at access s.memory (words_above w 1)) s else ends_other access w (word_at access s.memory (words_above w 1)) s))
+    (if word_at access s.memory (words_above w 1) == 1 then endp_last access w (word_at access s.memory (words_above w 1)) s else endp_other access w (word_at access s.memory (words_above w 1)) s))
 
 -- a process, told with its lowest bit set, goes into the queue
-abbrev pub runs : {M : Type 0} → Access M → Turn → State M → Ended M
-runs access t s =
+abbrev pub runp_row : {M : Type 0} → Access M → Turn → State M → Ended M
+runp_row access t s =
     with_word s.a s (λ a. with_word s.front s (λ front. unless_outside (not (a % 4 == 1)) s
     (unless_refused (enqueue_refusal access s.memory s.front s.back) s
     (ran t.following (cleared (enqueued access (below a 1) s))))))
 
 -- the current process waits outside the queue
-abbrev pub stops : {M : Type 0} → Access M → Turn → State M → Ended M
-stops access t s =
+abbrev pub stopp_row : {M : Type 0} → Access M → Turn → State M → Ended M
+stopp_row access t s =
     with_word s.front s (λ front. unless_refused (first_refusal (storable access s.memory (below s.wptr 4)) (next_refusal access s.memory s.front s.back)) s
     (gave_way access (saved access t.following s)))
 
@@ -88,13 +88,13 @@ abbrev pub loop_end : ℕ → ℕ → ℕ → ℕ
 loop_end count back following = if is_loop_taken count then below following back else following
 
 -- the end of a loop with index and count at B, which goes back by A bytes
-abbrev pub loops : {M : Type 0} → Access M → Turn → State M → Ended M
-loops access t s =
+abbrev pub lend_row : {M : Type 0} → Access M → Turn → State M → Ended M
+lend_row access t s =
     with_two s.a s.b s (λ back w. unless_refused (first_refusal (loop_refusal access w s.memory) (slice_refusal access t.slice s)) s
     (ran_or_sliced access t.slice (loop_end (word_at access s.memory (words_above w 1)) back t.following) (cleared (record s { memory = loop_stored access w (word_at access s.memory (words_above w 1)) s.memory }))))
 
 -- ---- move
 
-abbrev pub moves : {M : Type 0} → Access M → Turn → State M → Ended M
-moves access t s =
+abbrev pub move_row : {M : Type 0} → Access M → Turn → State M → Ended M
+move_row access t s =
     with_three s.a s.b s.c s (λ count to from. with_answer (access.copy s.memory from to count) s (λ m. ran t.following (cleared (record s { memory = m }))))

@@ -1,5 +1,6 @@
 -- The state of a processor over a space of addresses.
 use Rattle.std.specs.Prelude.{ℕ, ◌+◌, ◌-◌, ◌*◌, ◌/◌, ◌%◌, ◌^◌, Bool, Option, None, Some}
+use Rattle.tn_word.specs.Words.{mem_start}
 use Rattle.tn_cpu.specs.declared.registers.Reg.{Reg}
 use Rattle.tn_cpu.specs.declared.registers.Reg.TheVariants.{Undefined, Word}
 use Rattle.tn_cpu.specs.declared.outcomes.Life.{Life}
@@ -20,14 +21,6 @@ pub record State (M : Type 0) : Type 0 where
   pub error : Bool
   pub halt : Bool
   pub life : Life
-
--- MostNeg, which as a process is no process: NotProcess.p
-abbrev pub not_process : ℕ
-not_process = 0x80000000
-
--- where a bootstrap is stored
-abbrev pub mem_start : ℕ
-mem_start = 0x80000070
 
 -- a number modulo 2 ^ 32
 abbrev pub wrap : ℕ → ℕ

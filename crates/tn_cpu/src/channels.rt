@@ -1,21 +1,22 @@
 ghost use Rattle.std.specs.Prelude.{◌≡◌, ◌<◌};
-ghost use Rattle.tn_cpu.specs.Channels.{first_link, aligned_channel, channel_at, is_set, is_open, opens, linked, waiting, waits, exchanged, partner_refusal, met, internal, is_outside, on_channel, transfers};
+ghost use Rattle.tn_cpu.specs.Channels.{first_link, aligned_channel, channel_at, is_set, is_open, opens, linked, waiting, waits, exchanged, partner_refusal, met, internal, is_outside, on_channel, transfer_row};
 
 use crate::outcomes::{Outcome, Transfer, Why};
 use crate::processors::Cpu;
-use crate::queues::{NOT_PROCESS, below, first_refusal};
+use crate::queues::{below, first_refusal};
 use crate::registers::Reg;
 use crate::turns::Turn;
 use tn_mem::{Space, Touch};
+use tn_word::{MOST_NEG, NOT_PROCESS};
 
 /// The output channel of link 0, which those of links 1 to 3 follow.
-const OUTPUT_LINKS: u32 = 0x8000_0000;
+const OUTPUT_LINKS: u32 = MOST_NEG;
 
 /// The input channel of link 0, which those of links 1 to 3 follow.
-const INPUT_LINKS: u32 = 0x8000_0010;
+const INPUT_LINKS: u32 = MOST_NEG + 16;
 
 /// The address behind the event word, from which on a word can be a channel of two processes.
-const FREE_WORDS: u32 = 0x8000_0024;
+const FREE_WORDS: u32 = MOST_NEG + 36;
 
 /// The direction of a transfer.
 #[derive(Clone, Copy)]
@@ -41,7 +42,7 @@ pub enum Channel {
 impl<M: Space> Cpu<M> {
     /// `in` and `out`.
     pub(crate) fn transfer(&mut self, way: Way, turn: Turn) -> Outcome
-        ensures { transfers M.access way turn self.old ≡ record { state = self.new; outcome = result } }
+        ensures { transfer_row M.access way turn self.old ≡ record { state = self.new; outcome = result } }
     {
         match (self.a, self.b, self.c) {
             (Reg::Word(count), Reg::Word(channel), Reg::Word(pointer)) => {

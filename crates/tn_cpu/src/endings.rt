@@ -1,6 +1,6 @@
-ghost use Rattle.std.specs.Prelude.{◌≡◌};
+ghost use Rattle.std.specs.Prelude.{◌≡◌, ◌&&◌, ◌||◌};
 ghost use Rattle.tn_cpu.specs.States.{register_of};
-ghost use Rattle.tn_cpu.specs.Turns.{stopped, ran, why_of, setting_error, joins, replaces};
+ghost use Rattle.tn_cpu.specs.Turns.{stopped, ran, why_of, joins, replaces};
 
 use crate::outcomes::{Life, Outcome, Why};
 use crate::processors::Cpu;
@@ -36,13 +36,17 @@ impl<M: Space> Cpu<M> {
         Outcome::Ran
     }
 
-    /// Ends an instruction that may set Error, and changes no register.
-    pub(crate) fn set_error(&mut self, error: bool, iptr: u32) -> Outcome
-        ensures { setting_error error iptr self.old self.old ≡ record { state = self.new; outcome = result } }
+    /// Whether an instruction that sets Error, if `error`, stops the processor.
+    pub(crate) fn halts(&self, error: bool) -> bool
+        ensures { result ≡ (error && self.now.halt) }
     {
-        if error && self.halt {
-            return self.stop(Why::Halted);
-        }
+        error && self.halt
+    }
+
+    /// Ends an instruction that doesn't stop the processor and sets Error, if `error`.
+    pub(crate) fn set_error(&mut self, error: bool, iptr: u32) -> Outcome
+        ensures { ran iptr (record self.old { error = self.old.error || error }) ≡ record { state = self.new; outcome = result } }
+    {
         self.error = self.error || error;
         self.go_on(iptr)
     }
@@ -51,7 +55,7 @@ impl<M: Space> Cpu<M> {
     pub(crate) fn join(&mut self, answer: Answer, iptr: u32) -> Outcome
         ensures { joins answer iptr self.old ≡ record { state = self.new; outcome = result } }
     {
-        if answer.error && self.halt {
+        if self.halts(answer.error) {
             return self.stop(Why::Halted);
         }
         self.a = register(answer.value);
@@ -64,7 +68,7 @@ impl<M: Space> Cpu<M> {
     pub(crate) fn replace(&mut self, answer: Answer, iptr: u32) -> Outcome
         ensures { replaces answer iptr self.old ≡ record { state = self.new; outcome = result } }
     {
-        if answer.error && self.halt {
+        if self.halts(answer.error) {
             return self.stop(Why::Halted);
         }
         self.a = register(answer.value);

@@ -4,6 +4,7 @@ ghost use Rattle.tn_cpu.specs.declared.outcomes.Life.{Life};
 ghost use Rattle.tn_cpu.specs.States.{replaced};
 ghost use Rattle.tn_cpu.specs.Turns.{ran, with_answer};
 ghost use Rattle.tn_cpu.specs.Effects.{effect, operate_found};
+ghost use Rattle.tn_cpu.specs.OutcomeLaws.{OpensLink, IsNotStray};
 
 use crate::outcomes::{Outcome, Why};
 use crate::processors::Cpu;
@@ -18,7 +19,8 @@ impl<M: Space> Cpu<M> {
     /// Executes a function with an operand, where `following` is the address of the next
     /// instruction, `busy` has bit l for an open input engine of link l and bit 4 + l for an open
     /// output engine, `slice` lets another process take its turn at `j` and `lend`, and `clock` is
-    /// what `ldtimer` pushes. A stop changes nothing else.
+    /// what `ldtimer` pushes. A stop changes nothing else, and an engine opens for a byte or more on
+    /// one of the four links.
     pub fn execute(
         &mut self,
         fun: Fun,
@@ -30,7 +32,9 @@ impl<M: Space> Cpu<M> {
     ) -> Outcome
         requires running { self.old.life ≡ Life.Running }
         requires coded { IsCoded fun }
-        ensures { effect M.access fun operand (record { following = following; busy = busy; slice = slice; clock = clock }) self.old ≡ record { state = self.new; outcome = result } }
+        ensures effect { effect M.access fun operand (record { following = following; busy = busy; slice = slice; clock = clock }) self.old ≡ record { state = self.new; outcome = result } }
+        ensures transfer { OpensLink result }
+        ensures stray { IsNotStray result }
     {
         let turn = Turn {
             following,

@@ -22,5 +22,5 @@ mod tests;
 mod turns;
 
 pub use outcomes::{Life, Outcome, Transfer, Why};
-pub use processors::{Cpu, CpuView};
+pub use processors::{Cpu, CpuView, NoMemory};
 pub use registers::Reg;

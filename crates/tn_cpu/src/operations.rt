@@ -4,13 +4,14 @@ ghost use Rattle.tn_cpu.specs.Effects.{operate, quarter};
 use crate::channels::Way;
 use crate::outcomes::{Outcome, Why};
 use crate::processors::Cpu;
-use crate::queues::{NOT_PROCESS, words_above};
+use crate::queues::words_above;
 use crate::registers::Reg;
 use crate::turns::Turn;
 use tn_isa::Op;
 use tn_mem::Space;
+use tn_word::{MOST_NEG, NOT_PROCESS};
 
-/// The highest bit of a word, which is its sign; alone it is MostNeg.
+/// The highest bit of a word, which is its sign.
 const SIGN: u32 = 0x8000_0000;
 
 /// The operations that the operand of `opr` names, in the order of their codes.
@@ -34,7 +35,7 @@ impl<M: Space> Cpu<M> {
             Op::Out => self.transfer(Way::Output, turn),
             Op::Sub => self.sub(turn),
             Op::Startp => self.startp(turn),
-            Op::Seterr => self.set_error(true, turn.following),
+            Op::Seterr => self.seterr(turn),
             Op::Csub0 => self.csub0(turn),
             Op::Stopp => self.stopp(turn),
             Op::Sthf => self.sthf(turn),
@@ -113,6 +114,16 @@ impl<M: Space> Cpu<M> {
         }
     }
 
+    /// `seterr`: sets Error.
+    fn seterr(&mut self, turn: Turn) -> Outcome
+        ensures { operate M.access Op.Seterr turn self.old ≡ record { state = self.new; outcome = result } }
+    {
+        if self.halts(true) {
+            return self.stop(Why::Halted);
+        }
+        self.set_error(true, turn.following)
+    }
+
     /// `csub0`: sets Error where Breg is not below Areg, unsigned, and pops.
     fn csub0(&mut self, turn: Turn) -> Outcome
         ensures { operate M.access Op.Csub0 turn self.old ≡ record { state = self.new; outcome = result } }
@@ -120,7 +131,7 @@ impl<M: Space> Cpu<M> {
         match (self.a, self.b) {
             (Reg::Word(a), Reg::Word(b)) => {
                 let error = b >= a;
-                if error && self.halt {
+                if self.halts(error) {
                     return self.stop(Why::Halted);
                 }
                 self.pop();
@@ -300,11 +311,12 @@ impl<M: Space> Cpu<M> {
     fn mint(&mut self, turn: Turn) -> Outcome
         ensures { operate M.access Op.Mint turn self.old ≡ record { state = self.new; outcome = result } }
     {
-        self.push(SIGN);
+        self.push(MOST_NEG);
         self.go_on(turn.following)
     }
 
-    /// `sttimer`: starts the clock, and pops.
+    /// `sttimer`: pops. The clock that it starts is no part of this processor, so that the value
+    /// of Areg, which must be defined, changes nothing.
     fn sttimer(&mut self, turn: Turn) -> Outcome
         ensures { operate M.access Op.Sttimer turn self.old ≡ record { state = self.new; outcome = result } }
     {
@@ -343,7 +355,7 @@ impl<M: Space> Cpu<M> {
     }
 }
 
-/// A word halved twice, with its sign.
+/// A word shifted right by 2, with its sign.
 fn quarter(a: u32) -> u32
     ensures { result ≡ quarter a }
 {

@@ -5,10 +5,12 @@ ghost use Rattle.tn_cpu.specs.States.{powered_up, booted, over_memory};
 use crate::outcomes::Life;
 use crate::registers::Reg;
 use std::marker::Model;
-use tn_mem::{CodeFree, Memory, NoMemory, Space, Touch};
+use tn_mem::{CodeFree, Memory, Space, Touch};
+use tn_word::MEM_START;
 
-/// Where a bootstrap is stored.
-const MEM_START: u32 = 0x8000_0070;
+/// Memory cannot be had.
+#[derive(Clone, Copy, Debug, PartialEq, Eq, Hash)]
+pub struct NoMemory;
 
 /// A T425 over a space of addresses, without its links.
 #[derive(Debug, Drop)]
@@ -82,9 +84,9 @@ impl<M: Space> Cpu<M> {
         }
     }
 
-    /// Runs a bootstrap of so many bytes, which stands from MemStart, #80000070, on. The workspace
-    /// pointer is the first multiple of 4 behind it; that the registers are undefined is this
-    /// project's rule.
+    /// Runs a bootstrap of so many bytes, which stands from MemStart, #80000070, on. That the
+    /// workspace pointer is the first multiple of 4 behind it, and that the three registers and the
+    /// front of the queue are undefined, are this project's rules.
     pub fn boot(&mut self, bytes: u32)
         requires { bytes ≤ 255 }
         ensures { self.new ≡ booted bytes self.old }
@@ -154,7 +156,8 @@ impl Cpu<Memory> {
     pub fn guarded(&self, from: u32, to: u32) -> Result<Cpu<CodeFree>, NoMemory>
         ensures { IfOk result (λ copy. copy ≡ over_memory (record { bytes = self.now.memory; from = from; to = to }) self.now) }
     {
-        let memory = CodeFree::around(self.memory.copied()?, from, to);
+        let copied = self.memory.copied().map_err(|_| NoMemory)?;
+        let memory = CodeFree::around(copied, from, to);
         Ok(Cpu {
             memory,
             a: self.a,

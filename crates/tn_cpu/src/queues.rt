@@ -7,9 +7,7 @@ use crate::outcomes::{Life, Outcome, Why};
 use crate::processors::Cpu;
 use crate::registers::Reg;
 use tn_mem::{Space, Touch};
-
-/// NotProcess.p, the front of an empty queue.
-pub(crate) const NOT_PROCESS: u32 = 0x8000_0000;
+use tn_word::NOT_PROCESS;
 
 /// The words that rows of several steps test first, and then load and store, and the queue.
 impl<M: Space> Cpu<M> {

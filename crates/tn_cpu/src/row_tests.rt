@@ -4,21 +4,31 @@ use std::process::Abort;
 use std::test::Fail;
 use tn_isa::{Fun, Mnemonic, mnemonic_of, op_code};
 use tn_mem::{Memory, Space};
-
-const MOST_NEG: u32 = 0x8000_0000;
+use tn_word::MOST_NEG;
 
 /// The address of the instruction, and that of the next one.
 const HERE: u32 = MOST_NEG + 0x70;
 
 const FOLLOWING: u32 = MOST_NEG + 0x78;
 
-/// A line for each row of the guide's tables, and for each edge: the instruction; what stands
-/// before it; and what it changes. Numbers are hexadecimal, and `@` goes before an address counted
-/// from MostNeg. `i` and `w` are the instruction and workspace pointers, `f` and `k` the front and
-/// the back of the queue, `e` Error, `h` HaltOnError; `@300=5` is a word of memory. Where a line
-/// says nothing the registers are undefined, W is @200, the queue is empty, all words are 0, and
-/// the instruction pointer goes on to @78, but for an instruction that stops the processor, which
-/// changes nothing.
+/// Lines for each row of the guide's tables but `pfix` and `nfix`, which do not execute, and for
+/// the edges of each: the instruction; what stands before it; and what it changes.
+///
+/// Numbers are hexadecimal, and `@` goes before an address counted from MostNeg. `a`, `b` and `c`
+/// are the three registers, `i` and `w` the instruction and workspace pointers, `f` and `k` the
+/// front and the back of the queue, `e` Error, `h` HaltOnError; `?` is an undefined register, and
+/// `@300=5` a word of memory.
+///
+/// Before the instruction, `slice` says that the time of the process is up, and `busy=` has bit l
+/// for the open input engine of link l and bit 4 + l for its open output engine. After it, `in=`
+/// and `out=` say that the input or output engine of this link opens for the transfer that the
+/// registers asked for, and `idle` that no process runs. One of four words says why the
+/// instruction stops the processor, which changes nothing else: `undefined` for an undefined
+/// register or queue, `outside` for an access or a value that it does not take, `halted` for Error
+/// under HaltOnError, and `badop` for a code that no operation has.
+///
+/// Where a line says nothing the registers are undefined, W is @200, the queue is empty, all words
+/// are 0, and the instruction pointer goes on to @78.
 const ROWS: &str = "
 j 5 | a=1 b=2 c=3 | a=? b=? c=? i=@7D
 j FFFFFFFE | | i=@76
@@ -137,7 +147,7 @@ lend | a=4 b=@300 c=7 @300=5 @304=1 | a=? b=? c=? @300=5 @304=0
 lend | a=4 b=@300 @300=5 @304=2 | a=? b=? i=@74 @300=6 @304=1
 lend | a=4 b=@300 @300=5 @304=0 | a=? b=? @300=5 @304=FFFFFFFF
 lend | a=4 b=@300 @300=5 @304=80000001 | a=? b=? @300=5 @304=80000000
-lend | slice a=4 b=@300 @304=2 f=@380 k=@380 @37C=@A0 | a=? b=? i=@A0 w=@380 f=@200 k=@200 @1FC=@74 @300=1 @304=1
+lend | slice a=4 b=@300 @304=2 f=@380 k=@380 @37C=@A0 | a=? b=? i=@A0 w=@380 f=@200 k=@200 @378=@200 @1FC=@74 @300=1 @304=1
 lend | a=4 b=@302 | outside
 ldtimer | a=1 b=2 | a=4D b=1 c=2
 testerr | a=1 b=2 | a=1 b=1 c=2
@@ -361,43 +371,41 @@ fn execute(cpu: &mut Cpu<Memory>, fun: Fun, operand: u32, before: &Stand) -> Out
 }
 
 /// Runs the instruction of a line where its second part stands, and compares what then stands with
-/// its third.
+/// its third, in all of memory too.
 fn run_line(rt: &impl Abort, cpu: &mut Cpu<Memory>, line: &str) -> Result<(), Fail> {
     let (text, stands) = line.split_once('|').ok_or("no second part")?;
     let (stands, wanted) = stands.split_once('|').ok_or("no third part")?;
     let mut before = BEFORE;
     for word in stands.split_whitespace() {
         match word.strip_prefix('@') {
-            Some(_) => store(cpu, word)?,
+            Some(_) => store(&mut cpu.memory, word)?,
             None => before.set(word)?,
         }
     }
     before.give(cpu);
     let (fun, operand) = instruction(text.trim())?;
+    let mut memory = cpu.memory().copied().ok().ok_or("no memory")?;
     let outcome = execute(cpu, fun, operand, &before);
     let mut after = before;
     after.view.iptr = FOLLOWING;
     for word in wanted.split_whitespace() {
         match word.strip_prefix('@') {
-            Some(_) => assert!(rt; holds(cpu, word)?, "{line}"),
+            Some(_) => store(&mut memory, word)?,
             None => after.set(word)?,
         }
     }
     assert_eq!(rt; outcome, after.outcome, "{line}");
     assert_eq!(rt; cpu.life(), after.life, "{line}");
     assert_eq!(rt; cpu.view(), after.view, "{line}");
+    assert!(rt; cpu.memory().bytes() == memory.bytes(), "{line}");
     Ok(())
 }
 
-fn store(cpu: &mut Cpu<Memory>, word: &str) -> Result<(), Fail> {
+/// Stores the word of memory that a word of a line names.
+fn store(memory: &mut Memory, word: &str) -> Result<(), Fail> {
     let (at, value) = pair(word);
-    cpu.store_word(number(at)?, number(value)?)?;
+    memory.set_word(number(at)?, number(value)?)?;
     Ok(())
-}
-
-fn holds(cpu: &Cpu<Memory>, word: &str) -> Result<bool, Fail> {
-    let (at, value) = pair(word);
-    Ok(cpu.memory().word(number(at)?) == Ok(number(value)?))
 }
 
 #[test]

@@ -1,7 +1,7 @@
 ghost use Rattle.std.specs.Prelude.{◌≡◌};
 ghost use Rattle.tn_cpu.specs.States.{below, words_above, word_or_0};
 ghost use Rattle.tn_cpu.specs.Queues.{stored};
-ghost use Rattle.tn_cpu.specs.Rows.{frame_refusal, frame_stored, calls, starts, ends_last, ends_other, ends, runs, stops, is_loop_taken, loop_stored, loop_refusal, loop_end, loops, moves};
+ghost use Rattle.tn_cpu.specs.Rows.{frame_refusal, frame_stored, call_row, startp_row, endp_last, endp_other, endp_row, runp_row, stopp_row, is_loop_taken, loop_stored, loop_refusal, loop_end, lend_row, move_row};
 
 use crate::outcomes::{Outcome, Why};
 use crate::processors::Cpu;
@@ -16,7 +16,7 @@ impl<M: Space> Cpu<M> {
     /// `call`: saves the three registers and the address of the next instruction in four new words
     /// of workspace, and goes on `operand` bytes further.
     pub(crate) fn call(&mut self, operand: u32, turn: Turn) -> Outcome
-        ensures { calls M.access operand turn self.old ≡ record { state = self.new; outcome = result } }
+        ensures { call_row M.access operand turn self.old ≡ record { state = self.new; outcome = result } }
     {
         let frame = below(self.wptr, 16);
         if let Some(touch) = self.frame_refusal(frame) {
@@ -55,7 +55,7 @@ impl<M: Space> Cpu<M> {
     /// `startp`: a new process, whose workspace is Areg, begins Breg bytes after the next
     /// instruction.
     pub(crate) fn startp(&mut self, turn: Turn) -> Outcome
-        ensures { starts M.access turn self.old ≡ record { state = self.new; outcome = result } }
+        ensures { startp_row M.access turn self.old ≡ record { state = self.new; outcome = result } }
     {
         let (Reg::Word(process), Reg::Word(offset), Reg::Word(_)) = (self.a, self.b, self.front)
         else {
@@ -74,7 +74,7 @@ impl<M: Space> Cpu<M> {
     /// `endp`: the last of the processes that share the word after Areg goes on in the workspace
     /// there, and any other one is over.
     pub(crate) fn endp(&mut self) -> Outcome
-        ensures { ends M.access self.old ≡ record { state = self.new; outcome = result } }
+        ensures { endp_row M.access self.old ≡ record { state = self.new; outcome = result } }
     {
         let Reg::Word(w) = self.a else {
             return self.stop(Why::Undefined);
@@ -92,7 +92,7 @@ impl<M: Space> Cpu<M> {
 
     /// `endp` of the last process.
     fn end_last(&mut self, w: u32, count: u32) -> Outcome
-        ensures { ends_last M.access w count self.old ≡ record { state = self.new; outcome = result } }
+        ensures { endp_last M.access w count self.old ≡ record { state = self.new; outcome = result } }
     {
         if let Some(touch) = self.loadable(w) {
             return self.refuse(touch);
@@ -106,7 +106,7 @@ impl<M: Space> Cpu<M> {
 
     /// `endp` of a process that isn't the last.
     fn end_other(&mut self, w: u32, count: u32) -> Outcome
-        ensures { ends_other M.access w count self.old ≡ record { state = self.new; outcome = result } }
+        ensures { endp_other M.access w count self.old ≡ record { state = self.new; outcome = result } }
     {
         let Reg::Word(_) = self.front else {
             return self.stop(Why::Undefined);
@@ -120,7 +120,7 @@ impl<M: Space> Cpu<M> {
 
     /// `runp`: the process that Areg tells goes into the queue.
     pub(crate) fn runp(&mut self, turn: Turn) -> Outcome
-        ensures { runs M.access turn self.old ≡ record { state = self.new; outcome = result } }
+        ensures { runp_row M.access turn self.old ≡ record { state = self.new; outcome = result } }
     {
         let (Reg::Word(a), Reg::Word(_)) = (self.a, self.front) else {
             return self.stop(Why::Undefined);
@@ -138,7 +138,7 @@ impl<M: Space> Cpu<M> {
 
     /// `stopp`: the current process waits outside the queue.
     pub(crate) fn stopp(&mut self, turn: Turn) -> Outcome
-        ensures { stops M.access turn self.old ≡ record { state = self.new; outcome = result } }
+        ensures { stopp_row M.access turn self.old ≡ record { state = self.new; outcome = result } }
     {
         let Reg::Word(_) = self.front else {
             return self.stop(Why::Undefined);
@@ -154,7 +154,7 @@ impl<M: Space> Cpu<M> {
     /// `lend`: the end of a loop, with its index at Breg and its count after it, that goes back by
     /// Areg bytes.
     pub(crate) fn lend(&mut self, turn: Turn) -> Outcome
-        ensures { loops M.access turn self.old ≡ record { state = self.new; outcome = result } }
+        ensures { lend_row M.access turn self.old ≡ record { state = self.new; outcome = result } }
     {
         let (Reg::Word(back), Reg::Word(w)) = (self.a, self.b) else {
             return self.stop(Why::Undefined);
@@ -205,7 +205,7 @@ impl<M: Space> Cpu<M> {
 
     /// `move`: copies Areg bytes from Creg to Breg, as if all were read first.
     pub(crate) fn move_bytes(&mut self, turn: Turn) -> Outcome
-        ensures { moves M.access turn self.old ≡ record { state = self.new; outcome = result } }
+        ensures { move_row M.access turn self.old ≡ record { state = self.new; outcome = result } }
     {
         let (Reg::Word(count), Reg::Word(to), Reg::Word(from)) = (self.a, self.b, self.c) else {
             return self.stop(Why::Undefined);

@@ -2,6 +2,7 @@ ghost use Rattle.std.specs.Prelude.{◌≡◌};
 ghost use Rattle.tn_cpu.specs.declared.outcomes.Life.{Life};
 ghost use Rattle.tn_prefix.specs.Operand.{loaded, operand_after};
 ghost use Rattle.tn_cpu.specs.Steps.{prefixed, execute_byte, step};
+ghost use Rattle.tn_cpu.specs.OutcomeLaws.{OpensLink, IsNotStray};
 
 use crate::outcomes::Outcome;
 use crate::processors::Cpu;
@@ -14,11 +15,14 @@ impl<M: Space> Cpu<M> {
     /// changes the operand register, and any other byte executes its function with the operand that
     /// the register and the byte give. `busy` has bit l for an open input engine of link l and bit
     /// 4 + l for an open output engine, `slice` lets another process take its turn at `j` and
-    /// `lend`, and `clock` is what `ldtimer` pushes. A stop changes nothing else.
+    /// `lend`, and `clock` is what `ldtimer` pushes. A stop changes nothing else, and an engine opens
+    /// for a byte or more on one of the four links.
     #[tactic(auto, unfolding(crate::specs::Steps::step))]
     pub fn step(&mut self, busy: u8, slice: bool, clock: u32) -> Outcome
         requires { self.old.life ≡ Life.Running }
-        ensures { step M.access busy slice clock self.old ≡ record { state = self.new; outcome = result } }
+        ensures effect { step M.access busy slice clock self.old ≡ record { state = self.new; outcome = result } }
+        ensures transfer { OpensLink result }
+        ensures stray { IsNotStray result }
     {
         match self.memory.byte(self.iptr) {
             Ok(byte) => self.execute_byte(byte, busy, slice, clock),

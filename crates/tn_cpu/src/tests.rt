@@ -1,12 +1,10 @@
-use crate::queues::NOT_PROCESS;
 use crate::{Cpu, Life, Outcome, Reg, Transfer, Why};
 use std::alloc::Global;
 use std::process::Abort;
 use std::test::Fail;
 use tn_isa::{Fun, Op, op_code};
 use tn_mem::{Memory, Space, Touch};
-
-const MOST_NEG: u32 = 0x8000_0000;
+use tn_word::{MOST_NEG, NOT_PROCESS};
 
 const MINUS_ONE: u32 = 0xFFFF_FFFF;
 
@@ -73,7 +71,7 @@ fn step<M: Space>(cpu: &mut Cpu<M>) -> Outcome {
     cpu.step(0, false, 77)
 }
 
-/// The words of three workspaces.
+/// The workspace pointers of two more processes.
 const ONE: u32 = MOST_NEG + 0x300;
 
 const TWO: u32 = MOST_NEG + 0x380;
@@ -170,11 +168,11 @@ fn a_guarded_region_stops_the_processor(rt: HostRuntime) -> Result<(), Fail> {
     Ok(())
 }
 
-/// `ldc -1`, byte by byte.
+/// `ldc -1` and `ldc 16`, byte by byte.
 #[test]
 fn bytes_are_executed_one_by_one(rt: HostRuntime) -> Result<(), Fail> {
     let mut cpu = processor(&rt, rt.alloc())?;
-    let bytes = [0x60, 0x4F];
+    let bytes = [0x60, 0x4F, 0x21, 0x40];
     let mut at = MOST_NEG + 0x70;
     for byte in bytes {
         assert_eq!(rt; cpu.store_byte(at, byte), Ok(()));
@@ -183,6 +181,8 @@ fn bytes_are_executed_one_by_one(rt: HostRuntime) -> Result<(), Fail> {
     let table = [
         (Outcome::Prefix, 0xFFFF_FFF0, [X, X, X]),
         (Outcome::Ran, 0, [Reg::Word(MINUS_ONE), X, X]),
+        (Outcome::Prefix, 0x10, [Reg::Word(MINUS_ONE), X, X]),
+        (Outcome::Ran, 0, [Reg::Word(16), Reg::Word(MINUS_ONE), X]),
     ];
     let mut iptr = MOST_NEG + 0x70;
     for (outcome, oreg, after) in table {
