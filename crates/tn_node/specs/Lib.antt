@@ -1,0 +1,5 @@
+pub mod Engines
+pub mod Nodes
+pub mod Bootstraps
+pub mod Links
+pub mod Runs
