@@ -1,0 +1,5 @@
+pub mod Places
+pub mod Reading
+pub mod Joining
+pub mod Faultless
+pub mod Described

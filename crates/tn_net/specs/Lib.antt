@@ -1,0 +1,5 @@
+pub mod RawNetworks
+pub mod Lines
+pub mod Faults
+pub mod Networks
+pub mod Tables

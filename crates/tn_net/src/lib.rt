@@ -1,0 +1,14 @@
+//! Networks of processors: what a configuration says of one, whether that is a network, and what is
+//! at the far end of each link.
+#![tactic(auto)]
+
+mod lines;
+mod names;
+mod networks;
+mod tables;
+
+pub use lines::RawNetwork;
+pub use networks::{Far, Network};
+
+#[cfg(test)]
+mod tests;
