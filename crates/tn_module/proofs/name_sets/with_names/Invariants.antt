@@ -1,0 +1,6 @@
+use Rattle.std.proofs.Common.{◌++◌, take}
+use Rattle.tn_module.specs.Sets.{HaveSameNames}
+use Rattle.tn_module.proofs.name_sets.with_names.Given as goal
+
+abbrev pub invariant-loop-name : goal.invariant-loop-name
+invariant-loop-name l = HaveSameNames l.set.keys (l.initial.set.keys ++ take l.name-index l.names)

@@ -1,0 +1,5 @@
+pub mod Modules
+pub mod Names
+pub mod Validity
+pub mod Faults
+pub mod Sets

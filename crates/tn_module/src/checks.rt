@@ -1,0 +1,112 @@
+ghost use Rattle.std.specs.Prelude.{◌≡◌, ◌++◌, IfOk, OnOk};
+ghost use Rattle.tn_module.specs.declared.faults.Place.TheVariants as place;
+ghost use Rattle.tn_module.specs.declared.faults.CheckFault.TheVariants as check;
+ghost use Rattle.tn_module.specs.Modules.{module_of, IsShort};
+ghost use Rattle.tn_module.specs.Names.{import_names, code_labels};
+ghost use Rattle.tn_module.specs.Faults.{known, IsSound, IsFirstFault, OnFault};
+ghost use Rattle.tn_module.specs.Sets.{HaveSameNames, known_by, AreSound, IsFirstIn};
+
+use crate::causes::{again, cell_cause, export_cause, item_cause};
+use crate::faults::{CheckFault, ModuleFault, Place};
+use crate::modules::RawModule;
+use crate::name_sets::NameSets;
+use indexmap::IndexSet;
+use std::alloc::Global;
+use tn_text::{Cause, Name};
+
+/// Finds the first place where something is wrong with a module.
+pub(crate) fn check_places(alloc: Global, raw: &RawModule) -> Result<(), CheckFault>
+    requires { IsShort (module_of raw.now) }
+    ensures sound { OnOk result (IsSound (module_of raw.now)) }
+    ensures fault { OnFault result (IsFirstFault (module_of raw.now)) }
+{
+    let names = NameSets::of(alloc, raw)?;
+    let imported = check_imports(alloc, raw)?;
+    check_exports(alloc, raw, &names)?;
+    let outside_cells = check_items(raw, &names, imported)?;
+    check_cells(raw, &names, outside_cells)
+}
+
+/// Looks at the imports, and answers their names.
+fn check_imports(alloc: Global, raw: &RawModule) -> Result<IndexSet<Name>, CheckFault>
+    requires { IsShort (module_of raw.now) }
+    ensures names { IfOk result (λ seen. HaveSameNames seen.keys (import_names raw.now.imports.items)) }
+    ensures sound { OnOk result (AreSound place.Import (module_of raw.now)) }
+    ensures fault { OnFault result (IsFirstIn place.Import (module_of raw.now)) }
+{
+    let mut seen = IndexSet::new(alloc);
+    for (i, import) in raw.imports.iter().enumerate() {
+        if let Some(cause) = again(&mut seen, &import.name)? {
+            return Err(fault_at(Place::Import(i as u32), cause));
+        }
+    }
+    Ok(seen)
+}
+
+/// Looks at the exports.
+fn check_exports(alloc: Global, raw: &RawModule, names: &NameSets) -> Result<(), CheckFault>
+    requires short { IsShort (module_of raw.now) }
+    requires names { known_by names.now ≡ known (module_of raw.now) }
+    ensures sound { OnOk result (AreSound place.Export (module_of raw.now)) }
+    ensures fault { OnFault result (IsFirstIn place.Export (module_of raw.now)) }
+{
+    let mut seen = IndexSet::new(alloc);
+    for (i, name) in raw.exports.iter().enumerate() {
+        if let Some(cause) = export_cause(names, &mut seen, name)? {
+            return Err(fault_at(Place::Export(i as u32), cause));
+        }
+    }
+    Ok(())
+}
+
+/// Looks at the items, where the names of imports are seen, and answers those and the labels.
+fn check_items(
+    raw: &RawModule,
+    names: &NameSets,
+    mut seen: IndexSet<Name>,
+) -> Result<IndexSet<Name>, CheckFault>
+    requires short { IsShort (module_of raw.now) }
+    requires names { known_by names.now ≡ known (module_of raw.now) }
+    requires seen { HaveSameNames seen.keys (import_names raw.now.imports.items) }
+    ensures names { IfOk result (λ seen. HaveSameNames seen.keys (import_names raw.now.imports.items ++ code_labels raw.now.items.items)) }
+    ensures sound { OnOk result (AreSound place.Item (module_of raw.now)) }
+    ensures fault { OnFault result (IsFirstIn place.Item (module_of raw.now)) }
+{
+    for (i, item) in raw.items.iter().enumerate() {
+        if let Some(cause) = item_cause(names, &mut seen, item)? {
+            return Err(fault_at(Place::Item(i as u32), cause));
+        }
+    }
+    Ok(seen)
+}
+
+/// Looks at the cells, where the names of imports and of code are seen.
+fn check_cells(
+    raw: &RawModule,
+    names: &NameSets,
+    mut seen: IndexSet<Name>,
+) -> Result<(), CheckFault>
+    requires short { IsShort (module_of raw.now) }
+    requires names { known_by names.now ≡ known (module_of raw.now) }
+    requires seen { HaveSameNames seen.keys (import_names raw.now.imports.items ++ code_labels raw.now.items.items) }
+    ensures sound { OnOk result (AreSound place.Cell (module_of raw.now)) }
+    ensures fault { OnFault result (IsFirstIn place.Cell (module_of raw.now)) }
+{
+    for (i, cell) in raw.cells.iter().enumerate() {
+        if let Some(cause) = cell_cause(names, &mut seen, cell)? {
+            return Err(fault_at(Place::Cell(i as u32), cause));
+        }
+    }
+    Ok(())
+}
+
+/// The fault of a cause at its place.
+fn fault_at(place: Place, cause: Cause) -> CheckFault
+    ensures { result ≡ check.Fault (record { code = cause.code; place = place; detail = cause.detail }) }
+{
+    CheckFault::Fault(ModuleFault {
+        code: cause.code,
+        place,
+        detail: cause.detail,
+    })
+}
