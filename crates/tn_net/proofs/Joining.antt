@@ -1,6 +1,6 @@
 -- What joining a line gives.
 use Rattle.std.proofs.Common.{◌≡◌, ℕ, ◌+◌, ◌*◌, ◌≢◌, List, Some, None, Result, Ok, Err, set, subst, sym, ◌∙◌, ap}
-use Rattle.std.specs.Result.{MatchResult, IsErrAnd, IsErr}
+use Rattle.std.specs.Result.{MatchResult, IsErrAnd, IsErr, IfOk}
 use Rattle.tn_net.specs.declared.lines.LinkEnd.{LinkEnd}
 use Rattle.tn_net.specs.declared.lines.EndLine.{EndLine}
 use Rattle.tn_net.specs.declared.lines.Refusal.{Refusal}
@@ -34,3 +34,8 @@ passed_on P Q (Err x) e h q = subst Q (sym h.1) q
 pub error_is : {A E : Type 0} (r : Result A E) (e f : E) → IsErrAnd r (λ x. x ≡ e) → r ≡ Err f → e ≡ f
 error_is (Ok x) e f h is = absurd h
 error_is (Err x) e f h is = let same : x ≡ f = cc in sym h ∙ same
+
+-- an error is no value
+pub no_value : {A E : Type 0} (P : A → Type 0) (r : Result A E) → IsErr r → IfOk r P
+no_value P (Ok x) h = cc
+no_value P (Err e) h = tt

@@ -5,6 +5,7 @@
 mod lines;
 mod names;
 mod networks;
+mod paths;
 mod tables;
 
 pub use lines::RawNetwork;

@@ -1,5 +1,6 @@
-ghost use Rattle.std.specs.Prelude.{◌≡◌, ℕ, ◌+◌, ◌*◌, ◌<◌, length, map, slice_index, IfOk, IsErr};
+ghost use Rattle.std.specs.Prelude.{◌≡◌, ℕ, ◌+◌, ◌*◌, ◌<◌, length, map, slice_index, Err, IfOk};
 ghost use Rattle.tn_text.specs.declared.faults.ReadFault.TheVariants as read;
+ghost use Rattle.tn_text.specs.Reading.{Gives};
 ghost use Rattle.tn_net.specs.RawNetworks.{raw_of};
 ghost use Rattle.tn_net.specs.Lines.{IsSize, IsAdmitted};
 ghost use Rattle.tn_net.specs.Faults.{IsFaultless, IsFirstFault};
@@ -54,7 +55,7 @@ impl Network {
         ensures faultless { IfOk result (λ n. IsFaultless (raw_of raw.now)) }
         ensures pairing { IfOk result (λ n. IsPairing n) }
         ensures fault { (fault : _) → result ≡ Err (read.Fault fault) → IsFirstFault (raw_of raw.now) fault }
-        ensures only { (fault : _) → IsFirstFault (raw_of raw.now) fault → IsErr result }
+        ensures only { (fault : _) → IsFirstFault (raw_of raw.now) fault → Gives (λ n. n) result (Err fault) }
     {
         if let Some(place) = first_repeated(&raw.names) {
             let (name, _, line) = raw.names[place];
@@ -81,8 +82,7 @@ impl Network {
 
     /// The number of processors.
     pub fn count(&self) -> u32
-        ensures value { result ≡ length self.now.sizes }
-        ensures pairing { IsPairing self.now }
+        ensures { result ≡ length self.now.sizes }
     {
         self.sizes.len() as u32
     }
@@ -107,7 +107,7 @@ impl Network {
     /// The processor and the link that the host is wired to.
     pub fn root(&self) -> (u32, u8)
         ensures value { result ≡ (self.now.root, self.now.root_link) }
-        ensures end { IsEnd self.now self.now.root self.now.root_link }
+        ensures pairing { IsPairing self.now }
     {
         (self.root, self.root_link)
     }

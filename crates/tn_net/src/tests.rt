@@ -3,6 +3,7 @@ ghost use Rattle.tn_net.specs.RawNetworks.{raw_of};
 ghost use Rattle.tn_net.specs.Lines.{HasLinks, IsSize, DifferInNumber, IsAdmitted, line_at, size_at};
 
 use crate::lines::{EndLine, end_lines};
+use crate::paths::{Reached, walk};
 use crate::{Far, Network, RawNetwork};
 use std::alloc::{AllocError, Global};
 use std::process::Abort;
@@ -183,6 +184,33 @@ fn far(rt: &impl Abort, network: &Network, p: u32, l: u8) -> Far {
     network.far(p, l)
 }
 
+fn step(processor: u32, parent: usize, parent_link: u8, boot_link: u8) -> Reached {
+    Reached {
+        processor,
+        parent,
+        parent_link,
+        boot_link,
+    }
+}
+
+/// A ring of four. The wires stand in another order than their lines.
+const RING: Said = Said {
+    names: &[
+        ("a", 4096, 1),
+        ("b", 4096, 8),
+        ("c", 4096, 15),
+        ("d", 4096, 22),
+    ],
+    host: Some(("a", 0, 29)),
+    wires: &[
+        ("d", 1, "a", 3, 33),
+        ("a", 1, "b", 3, 30),
+        ("c", 1, "d", 3, 32),
+        ("b", 1, "c", 3, 31),
+    ],
+    lines: 33,
+};
+
 /// Two processors, and 20 lines.
 fn two<'a>(
     host: Option<(&'a str, u8, u32)>,
@@ -212,26 +240,9 @@ fn two_processors(rt: HostRuntime) -> Result<(), Fail> {
     Ok(())
 }
 
-/// The wires of the ring stand in another order than their lines.
 #[test]
 fn ring_of_four(rt: HostRuntime) -> Result<(), Fail> {
-    let said = Said {
-        names: &[
-            ("a", 4096, 1),
-            ("b", 4096, 8),
-            ("c", 4096, 15),
-            ("d", 4096, 22),
-        ],
-        host: Some(("a", 0, 29)),
-        wires: &[
-            ("d", 1, "a", 3, 33),
-            ("a", 1, "b", 3, 30),
-            ("c", 1, "d", 3, 32),
-            ("b", 1, "c", 3, 31),
-        ],
-        lines: 33,
-    };
-    let network = network(&rt, rt.alloc(), said)?;
+    let network = network(&rt, rt.alloc(), RING)?;
     assert_eq!(rt; network.count(), 4);
     assert_eq!(rt; network.root(), (0, 0));
     for p in 0..4 {
@@ -239,6 +250,42 @@ fn ring_of_four(rt: HostRuntime) -> Result<(), Fail> {
         assert_eq!(rt; far(&rt, &network, p, 3), Far::Link((p + 3) % 4, 1));
         assert_eq!(rt; far(&rt, &network, p, 2), Far::Nothing);
     }
+    Ok(())
+}
+
+/// The paths are those of `a`, 1 to `b`, 3 to `d`, and 1, 1 to `c`, which is less than 3, 3.
+#[test]
+fn paths_of_the_ring(rt: HostRuntime) -> Result<(), Fail> {
+    let alloc = rt.alloc();
+    let network = network(&rt, alloc, RING)?;
+    let order = walk(alloc, &network)?;
+    assert_eq!(rt; order.len(), 4);
+    assert_eq!(rt; order[0], step(0, 0, 0, 0));
+    assert_eq!(rt; order[1], step(1, 0, 1, 3));
+    assert_eq!(rt; order[2], step(3, 0, 3, 1));
+    assert_eq!(rt; order[3], step(2, 1, 1, 3));
+    Ok(())
+}
+
+/// Two wires lead from `a` to `b`, and none to `c`.
+#[test]
+fn least_path(rt: HostRuntime) -> Result<(), Fail> {
+    let alloc = rt.alloc();
+    let said = Said {
+        names: &[("c", 4096, 1), ("a", 4096, 2), ("b", 4096, 3)],
+        host: Some(("a", 2, 4)),
+        wires: &[
+            ("b", 0, "a", 3, 5),
+            ("b", 1, "a", 0, 6),
+            ("b", 2, "b", 3, 7),
+        ],
+        lines: 7,
+    };
+    let network = network(&rt, alloc, said)?;
+    let order = walk(alloc, &network)?;
+    assert_eq!(rt; order.len(), 2);
+    assert_eq!(rt; order[0], step(1, 0, 0, 2));
+    assert_eq!(rt; order[1], step(2, 0, 0, 1));
     Ok(())
 }
 

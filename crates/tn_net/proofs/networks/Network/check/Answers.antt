@@ -5,10 +5,10 @@ use Rattle.tn_text.specs.declared.faults.FaultCode.TheVariants.{NoHost}
 use Rattle.tn_text.specs.Faults.{fault_at, bare}
 use Rattle.tn_net.specs.RawNetworks.{raw_of}
 use Rattle.tn_net.specs.Lines.{line_of, name_at, IsKnown, IsRepeated, AreDistinct, end_lines}
-use Rattle.tn_net.specs.Faults.{IsFirstFault, IsFirstWrong, duplicate, repeated, wrong, hostless}
+use Rattle.tn_net.specs.Faults.{IsFaultless, IsFirstFault, IsFirstWrong, duplicate, repeated, wrong, hostless}
 use Rattle.tn_net.specs.Tables.{IsWired}
-use Rattle.tn_net.proofs.Faultless.{faultless_or_fault}
-use Rattle.tn_net.proofs.Joining.{error_is}
+use Rattle.tn_net.proofs.Faultless.{faultless_or_fault, one_first_fault, gives_first}
+use Rattle.tn_net.proofs.Joining.{error_is, no_value}
 use Rattle.tn_net.proofs.Described.{Gives, gives, wired_read, described, paired, faultless, root_known}
 use Rattle.tn_net.proofs.networks.Network.check.Goals as goal
 
@@ -64,3 +64,12 @@ returns-clause-pairing c = paired (raw_of c.args.raw.now) (record { sizes = c.in
 
 pub returns-clause-only : goal.returns-clause-only
 returns-clause-only c = λ fault first. absurd (faultless_or_fault (raw_of c.args.raw.now) fault (faultless (raw_of c.args.raw.now) (record { sizes = c.in_ok-sizes.sizes.items; fars = c.in_ok-fars.fars.items; root = c.in-Some-named.root; root_link = c.in-Some-host.root_link }) (given c)) first)
+
+pub returns-in-Some-clause-only : goal.returns-in-Some-clause-only
+returns-in-Some-clause-only c = λ fault first. ap Err (one_first_fault (raw_of c.args.raw.now) c.at.result fault c.requires.numbers (returns-in-Some-clause-fault c c.at.result refl) first)
+
+pub returns-in_err-fars-clause-only : goal.returns-in_err-fars-clause-only
+returns-in_err-fars-clause-only c = gives_first (raw_of c.args.raw.now) c.from_residual-in_err-fars.result c.requires.numbers (returns-in_err-fars-clause-fault c) (no_value (λ _. IsFaultless (raw_of c.args.raw.now)) c.from_residual-in_err-fars.result c.from_residual-in_err-fars.ensures.0)
+
+pub returns-in_default-host-clause-only : goal.returns-in_default-host-clause-only
+returns-in_default-host-clause-only c = λ fault first. ap Err (one_first_fault (raw_of c.args.raw.now) c.at-in_default-host.result fault c.requires.numbers (returns-in_default-host-clause-fault c c.at-in_default-host.result refl) first)
