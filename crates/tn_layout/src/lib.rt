@@ -1,0 +1,14 @@
+//! Sizes of the pieces of code: the least that hold the operands of all references, by the rule of
+//! lengths from "Transputer Instruction Set: a compiler writer's guide". An operand that is a
+//! distance between two places needs more bytes where it is larger, and the distance grows with the
+//! sizes between the places.
+#![tactic(auto)]
+
+mod pieces;
+mod sizes;
+
+pub use pieces::{LayoutFault, Piece};
+pub use sizes::settle;
+
+#[cfg(test)]
+mod tests;
