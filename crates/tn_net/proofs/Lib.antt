@@ -5,3 +5,6 @@ pub mod Faultless
 pub mod Described
 pub mod Ranks
 pub mod Visiting
+pub mod Dictionary
+pub mod Loading
+pub mod Growing

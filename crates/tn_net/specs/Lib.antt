@@ -5,3 +5,5 @@ pub mod Networks
 pub mod Tables
 pub mod Paths
 pub mod Visits
+pub mod Trees
+pub mod Loads

@@ -7,9 +7,11 @@ mod names;
 mod networks;
 mod paths;
 mod tables;
+mod trees;
 
 pub use lines::RawNetwork;
 pub use networks::{Far, Network};
+pub use trees::{Tree, TreeFault, TreeNode, load_tree};
 
 #[cfg(test)]
 mod tests;

@@ -1,4 +1,4 @@
-ghost use Rattle.std.specs.Prelude.{◌≡◌, ◌+◌, ◌<◌, length, nat_eq, IfOk, OnOk};
+ghost use Rattle.std.specs.Prelude.{◌≡◌, ◌+◌, ◌<◌, ◌≤◌, length, nat_eq, IfOk, OnOk};
 ghost use Rattle.std.specs.List.{list_any};
 ghost use Rattle.tn_net.specs.Networks.{IsPairing};
 ghost use Rattle.tn_net.specs.Paths.{AreReached};
@@ -20,7 +20,8 @@ pub struct Reached {
 /// The processors that a path leads to, in the order of their paths, which is that of the lengths
 /// and, among paths of one length, that of the links.
 pub fn walk(alloc: Global, network: &Network) -> Result<Vec<Reached>, AllocError>
-    ensures { IfOk result (λ order. AreReached network.now order.items) }
+    ensures reached { IfOk result (λ order. AreReached network.now order.items) }
+    ensures few { IfOk result (λ order. length order.items ≤ 64) }
 {
     let (processor, boot_link) = network.root();
     let mut order = Vec::new(alloc);
@@ -75,7 +76,7 @@ fn visit(network: &Network, order: &mut Vec<Reached>, i: usize, l: u8) -> Result
     Ok(())
 }
 
-fn is_reached(order: &[Reached], processor: u32) -> bool
+pub fn is_reached(order: &[Reached], processor: u32) -> bool
     ensures { result ≡ list_any (λ reached. nat_eq processor reached.processor) order.now }
 {
     order.iter().any(|reached| processor == reached.processor)

@@ -4,7 +4,7 @@ ghost use Rattle.tn_net.specs.Lines.{HasLinks, IsSize, DifferInNumber, IsAdmitte
 
 use crate::lines::{EndLine, end_lines};
 use crate::paths::{Reached, walk};
-use crate::{Far, Network, RawNetwork};
+use crate::{Far, Network, RawNetwork, Tree, TreeFault, load_tree};
 use std::alloc::{AllocError, Global};
 use std::process::Abort;
 use std::test::Fail;
@@ -211,6 +211,14 @@ const RING: Said = Said {
     lines: 33,
 };
 
+/// One processor, and no wire.
+const ONE: Said = Said {
+    names: &[("a", 4096, 1)],
+    host: Some(("a", 2, 9)),
+    wires: &[],
+    lines: 9,
+};
+
 /// Two processors, and 20 lines.
 fn two<'a>(
     host: Option<(&'a str, u8, u32)>,
@@ -367,4 +375,80 @@ fn order_of_faults(rt: HostRuntime) -> Result<(), Fail> {
     expect_twice(&rt, alloc, two_lines, "a", 0, 18)?;
     let both_ends = two(host, &[("b", 1, "b", 2, 19), ("b", 2, "b", 1, 16)]);
     expect_twice(&rt, alloc, both_ends, "b", 1, 19)
+}
+
+/// The load tree.
+fn tree(alloc: Global, network: &Network) -> Result<Tree, Fail> {
+    match load_tree(alloc, network) {
+        Ok(tree) => Ok(tree),
+        Err(_) => Err("no tree")?,
+    }
+}
+
+/// The node at this place has this processor, parent, links and children.
+fn expect_node(
+    rt: &impl Abort,
+    tree: &Tree,
+    k: usize,
+    processor: u32,
+    parent: Option<u32>,
+    boot_link: u8,
+    children: &[u32],
+) {
+    assert!(rt; k < tree.nodes.len());
+    let node = &tree.nodes[k];
+    assert_eq!(rt; node.processor, processor);
+    assert_eq!(rt; node.parent, parent);
+    assert_eq!(rt; node.boot_link, boot_link);
+    assert_eq!(rt; node.children.as_slice(), children);
+}
+
+/// `b`'s subtree, with `c`, comes before `d`, though `c` has the longer path.
+#[test]
+fn tree_of_the_ring(rt: HostRuntime) -> Result<(), Fail> {
+    let alloc = rt.alloc();
+    let network = network(&rt, alloc, RING)?;
+    let tree = tree(alloc, &network)?;
+    assert_eq!(rt; tree.nodes.len(), 4);
+    expect_node(&rt, &tree, 0, 0, None, 0, &[1, 3]);
+    expect_node(&rt, &tree, 1, 1, Some(0), 3, &[2]);
+    expect_node(&rt, &tree, 2, 2, Some(1), 3, &[]);
+    expect_node(&rt, &tree, 3, 3, Some(0), 1, &[]);
+    assert_eq!(rt; tree.nodes[1].parent_link, 1);
+    assert_eq!(rt; tree.nodes[2].parent_link, 1);
+    assert_eq!(rt; tree.nodes[3].parent_link, 3);
+    Ok(())
+}
+
+#[test]
+fn tree_of_one(rt: HostRuntime) -> Result<(), Fail> {
+    let alloc = rt.alloc();
+    let network = network(&rt, alloc, ONE)?;
+    let tree = tree(alloc, &network)?;
+    assert_eq!(rt; tree.nodes.len(), 1);
+    expect_node(&rt, &tree, 0, 0, None, 2, &[]);
+    Ok(())
+}
+
+/// Nothing leads to `b` and `d`, and `b` is the first.
+#[test]
+fn unreachable_processor(rt: HostRuntime) -> Result<(), Fail> {
+    let alloc = rt.alloc();
+    let said = Said {
+        names: &[
+            ("a", 4096, 1),
+            ("b", 4096, 2),
+            ("c", 4096, 3),
+            ("d", 4096, 4),
+        ],
+        host: Some(("c", 0, 5)),
+        wires: &[("a", 1, "c", 3, 6), ("b", 1, "d", 3, 7)],
+        lines: 7,
+    };
+    let network = network(&rt, alloc, said)?;
+    match load_tree(alloc, &network) {
+        Err(fault) => assert_eq!(rt; fault, TreeFault::Unreachable(1)),
+        Ok(_) => assert!(rt; false),
+    }
+    Ok(())
 }

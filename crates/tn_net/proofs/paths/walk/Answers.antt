@@ -20,4 +20,7 @@ pub loop-i-preserved : goal.loop-i-preserved
 loop-i-preserved c = next_processor c.args.network.now c.visit_links.new.order.items c.loop-i.i c.in_ok-visit_links.ensures.here c.in_ok-visit_links.ensures.visited
 
 pub returns : goal.returns
-returns c = all_reached c.args.network.now c.loop-i.order.items c.loop-i.i c.loop-i.invariant (omega (arith, c.len.ensures, c.loop-i-test.false, c.loop-i.order.ok.0))
+returns c = record {
+  reached = all_reached c.args.network.now c.loop-i.order.items c.loop-i.i c.loop-i.invariant (omega (arith, c.len.ensures, c.loop-i-test.false, c.loop-i.order.ok.0));
+  few = omega (arith, few_found c.args.network.now c.loop-i.order.items c.loop-i.i 0 c.loop-i.invariant, c.root-processor.ensures.pairing.few);
+}

@@ -1,0 +1,6 @@
+use Rattle.tn_net.specs.Loads.{AreNodes}
+use Rattle.tn_net.proofs.trees.nodes.Given as goal
+
+-- the nodes so far
+abbrev pub invariant-loop-k : goal.invariant-loop-k
+invariant-loop-k l = AreNodes l.order l.load l.parents l.nodes.items l.k
