@@ -1,15 +1,16 @@
 -- The network that a description gives.
 use Rattle.std.proofs.Common.{◌≡◌, ℕ, zero, suc, ◌*◌, ◌<◌, ◌≢◌, List, [], ◌∷◌, ◌++◌, map, length, get_or, refl, sym, ◌∙◌, ap, subst, arith, Option, Some, None, inl, inr}
 use Rattle.std.proofs.lemmas.List.{length-map}
+use Rattle.tn_mem.specs.Sizes.{IsMemorySize}
 use Rattle.tn_net.specs.declared.lines.LinkEnd.{LinkEnd}
 use Rattle.tn_net.specs.declared.lines.EndLine.{EndLine}
 use Rattle.tn_net.specs.declared.networks.Far.{Far}
 use Rattle.tn_net.specs.declared.networks.Far.TheVariants.{Nothing, Host, Link}
 use Rattle.tn_net.specs.RawNetworks.{RawLists}
-use Rattle.tn_net.specs.Lines.{name_at, size_at, IsNamed, IsKnown, AreDistinct, host_lines, wire_line, end_lines, line_at, HasEnd, Wires, StandsBefore, DifferInNumber, IsSize, IsAdmitted}
+use Rattle.tn_net.specs.Lines.{name_at, size_at, IsNamed, IsKnown, AreDistinct, host_lines, wire_line, end_lines, line_at, HasEnd, Wires, IsTakenBefore, DifferInNumber, IsAdmitted}
 use Rattle.tn_net.specs.Faults.{IsRight, AreRight, IsFaultless}
 use Rattle.tn_net.specs.Networks.{NetworkState, far_at, IsEnd, IsPairing, end_of, Joined, HostAt, IsNetwork}
-use Rattle.tn_net.specs.Tables.{HostBefore, Shows, IsWired}
+use Rattle.tn_net.specs.Inner.Tables.{HostBefore, Shows, IsWired}
 use Rattle.tn_net.proofs.Places.{one_place, some_same}
 use Rattle.tn_net.proofs.Reading.{one_line}
 
@@ -57,8 +58,8 @@ wires_one line a b c apart (inr w) (inl v) = absurd (apart (w.1 ∙ ap (λ (e : 
 wires_one line a b c apart (inr w) (inr v) = sym w.0 ∙ v.0
 
 -- an end of a right line stands on no line before it
-pub stands_once : (names : List (List ℕ × ℕ × ℕ)) (lines : List EndLine) (line : EndLine) (end : LinkEnd) → IsRight names lines line → HasEnd line end → StandsBefore lines line.line end → ⊥
-stands_once names lines line end right (inl one) stands = right.one (subst (λ e. StandsBefore lines line.line e) (sym one) stands)
+pub stands_once : (names : List (List ℕ × ℕ × ℕ)) (lines : List EndLine) (line : EndLine) (end : LinkEnd) → IsRight names lines line → HasEnd line end → IsTakenBefore lines line.line end → ⊥
+stands_once names lines line end right (inl one) stands = right.one (subst (λ e. IsTakenBefore lines line.line e) (sym one) stands)
 stands_once names lines line end right (inr two) stands = right.two end two stands
 
 -- an end stands on one line
@@ -174,7 +175,7 @@ size_read (x ∷ xs) (suc p) h = size_read xs p (omega (arith, h))
 pub paired : (raw : RawLists) (n : NetworkState) → Gives raw n → IsPairing n
 paired raw n g = record {
   few = omega (arith, count_is raw n g, g.admitted.few);
-  sizes = λ p hp. let h : p < length raw.names = omega (arith, hp, count_is raw n g) in subst IsSize (sym (ap (λ s. get_or s p 0) g.sizes ∙ size_read raw.names p h)) (g.admitted.sizes p h);
+  sizes = λ p hp. let h : p < length raw.names = omega (arith, hp, count_is raw n g) in subst (λ s. IsMemorySize s) (sym (ap (λ s. get_or s p 0) g.sizes ∙ size_read raw.names p h)) (g.admitted.sizes p h);
   room = g.wired.table.room ∙ ap (λ i. 4 * i) (sym (count_is raw n g));
   root = root_end raw n g;
   ends = other;

@@ -2,9 +2,9 @@
 use Rattle.std.proofs.Common.{◌≡◌, ℕ, ◌+◌, ◌<◌, ◌≤◌, inl, inr, List, [], ◌∷◌, ◌++◌, length, refl, ◌∙◌, ap, arith}
 use Rattle.std.proofs.lemmas.List.{length_push}
 use Rattle.tn_net.specs.Paths.{ComesBefore, IsLess}
-use Rattle.tn_net.specs.Trees.{StandsBefore}
+use Rattle.tn_net.specs.Trees.{PrecedesInDictionary}
 
-pub stands_trans : (a b c : List ℕ) → StandsBefore a b → StandsBefore b c → StandsBefore a c
+pub stands_trans : (a b c : List ℕ) → PrecedesInDictionary a b → PrecedesInDictionary b c → PrecedesInDictionary a c
 stands_trans [] [] c p q = absurd p
 stands_trans [] (y ∷ b) [] p q = absurd q
 stands_trans [] (y ∷ b) (z ∷ c) p q = tt
@@ -12,16 +12,16 @@ stands_trans (x ∷ a) [] c p q = absurd p
 stands_trans (x ∷ a) (y ∷ b) [] p q = absurd q
 stands_trans (x ∷ a) (y ∷ b) (z ∷ c) p q = elim p [ inl h ↦ elim q [ inl g ↦ inl (omega (arith, h, g)) | inr g ↦ inl (omega (arith, h, g.0)) ] | inr h ↦ elim q [ inl g ↦ inl (omega (arith, h.0, g)) | inr g ↦ inr (h.0 ∙ g.0, stands_trans a b c h.1 g.1) ] ]
 
-pub stands_self : (a : List ℕ) → StandsBefore a a → ⊥
+pub stands_self : (a : List ℕ) → PrecedesInDictionary a a → ⊥
 stands_self [] h = h
 stands_self (x ∷ a) h = elim h [ inl less ↦ omega (arith, less) | inr both ↦ stands_self a both.1 ]
 
 -- a list stands before the longer ones that it begins
-pub more_after : (p : List ℕ) (l : ℕ) → StandsBefore p (p ++ l ∷ [])
+pub more_after : (p : List ℕ) (l : ℕ) → PrecedesInDictionary p (p ++ l ∷ [])
 more_after [] l = tt
 more_after (x ∷ p) l = inr (refl, more_after p l)
 
-pub sibling_before : (p : List ℕ) (m l : ℕ) → m < l → StandsBefore (p ++ m ∷ []) (p ++ l ∷ [])
+pub sibling_before : (p : List ℕ) (m l : ℕ) → m < l → PrecedesInDictionary (p ++ m ∷ []) (p ++ l ∷ [])
 sibling_before [] m l h = inl h
 sibling_before (x ∷ p) m l h = inr (refl, sibling_before p m l h)
 
@@ -66,7 +66,7 @@ without_last (x ∷ a) (y ∷ b) m l e =
     cc
 
 -- what stands after a list, is at most one longer and does not extend it stands after what extends it
-pub beyond : (p x : List ℕ) (l : ℕ) → StandsBefore p x → length x ≤ length p + 1 → ((m : ℕ) → x ≡ p ++ m ∷ [] → ⊥) → StandsBefore (p ++ l ∷ []) x
+pub beyond : (p x : List ℕ) (l : ℕ) → PrecedesInDictionary p x → length x ≤ length p + 1 → ((m : ℕ) → x ≡ p ++ m ∷ [] → ⊥) → PrecedesInDictionary (p ++ l ∷ []) x
 beyond [] [] l h few apart = absurd h
 beyond [] (y ∷ []) l h few apart = absurd (apart y refl)
 beyond [] (y ∷ (z ∷ ys)) l h few apart = absurd (omega (arith, few))

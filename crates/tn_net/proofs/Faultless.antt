@@ -11,7 +11,7 @@ use Rattle.tn_net.specs.declared.lines.LinkEnd.{LinkEnd}
 use Rattle.tn_net.specs.declared.lines.EndLine.{EndLine}
 use Rattle.tn_net.specs.RawNetworks.{RawLists}
 use Rattle.tn_net.specs.Lines.{name_at, line_of, end_lines, line_at, DifferInNumber}
-use Rattle.tn_net.specs.Faults.{unknown, twice, duplicate, IsRight, IsWrong, IsFirstWrong, IsFirstRepeated, one_unknown, two_unknown, one_twice, two_twice, IsFirstFault, repeated, wrong, hostless, IsFaultless}
+use Rattle.tn_net.specs.Faults.{unknown, twice, duplicate, IsRight, IsWrong, IsFirstWrong, IsFirstRepeated, one_unknown, two_unknown, one_twice, two_twice, IsNetworkFault, repeated, wrong, hostless, IsFaultless}
 use Rattle.tn_net.proofs.Places.{some_same}
 use Rattle.tn_net.proofs.Reading.{one_line}
 
@@ -24,7 +24,7 @@ right_or_wrong names lines line cause right (two_twice end two known free (inl s
 right_or_wrong names lines line cause right (two_twice end two known free (inr same) is) = right.apart (two ∙ ap (λ (e : LinkEnd). Some e) (sym same))
 
 -- no fault stands, or a first one
-pub faultless_or_fault : (raw : RawLists) (fault : Fault) → IsFaultless raw → IsFirstFault raw fault → ⊥
+pub faultless_or_fault : (raw : RawLists) (fault : Fault) → IsFaultless raw → IsNetworkFault raw fault → ⊥
 faultless_or_fault raw fault good (repeated r) = good.distinct r.place r.here r.repeated
 faultless_or_fault raw fault good (wrong distinct w) = right_or_wrong raw.names (end_lines raw) (line_at (end_lines raw) w.place) w.cause (good.right w.place w.here) w.wrong
 faultless_or_fault raw fault good (hostless distinct right lacks) = good.hosted lacks.none
@@ -75,7 +75,7 @@ one_first_repeated names f g v w = v.told ∙ ap (λ k. fault_at (line_of names 
         omega (arith, a, b)
 
 -- a description has one first fault
-pub one_first_fault : (raw : RawLists) (f g : Fault) → DifferInNumber (end_lines raw) → IsFirstFault raw f → IsFirstFault raw g → f ≡ g
+pub one_first_fault : (raw : RawLists) (f g : Fault) → DifferInNumber (end_lines raw) → IsNetworkFault raw f → IsNetworkFault raw g → f ≡ g
 one_first_fault raw f g differ (repeated v) (repeated w) = one_first_repeated raw.names f g v w
 one_first_fault raw f g differ (repeated v) (wrong distinct w) = absurd (distinct v.place v.here v.repeated)
 one_first_fault raw f g differ (repeated v) (hostless distinct right w) = absurd (distinct v.place v.here v.repeated)
@@ -87,7 +87,7 @@ one_first_fault raw f g differ (hostless distinct right v) (wrong also w) = absu
 one_first_fault raw f g differ (hostless distinct right v) (hostless also too w) = v.told ∙ sym w.told
 
 -- where a fault stands, a result that is right is that fault
-pub gives_first : {N : Type 0} (raw : RawLists) (result : Result N ReadFault) → DifferInNumber (end_lines raw) → ((f : Fault) → result ≡ Err (read.Fault f) → IsFirstFault raw f) → IfOk result (λ _. IsFaultless raw) → (fault : Fault) → IsFirstFault raw fault → Gives (λ n. n) result (Err fault)
+pub gives_first : {N : Type 0} (raw : RawLists) (result : Result N ReadFault) → DifferInNumber (end_lines raw) → ((f : Fault) → result ≡ Err (read.Fault f) → IsNetworkFault raw f) → IfOk result (λ _. IsFaultless raw) → (fault : Fault) → IsNetworkFault raw fault → Gives (λ n. n) result (Err fault)
 gives_first raw (Ok n) differ told good fault first = absurd (faultless_or_fault raw fault good first)
 gives_first raw (Err (read.Fault f)) differ told good fault first = ap Err (one_first_fault raw f fault differ (told f refl) first)
 gives_first raw (Err read.NoMemory) differ told good fault first = tt

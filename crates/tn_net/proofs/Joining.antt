@@ -8,7 +8,7 @@ use Rattle.tn_net.specs.declared.lines.Refusal.TheVariants.{Taken}
 use Rattle.tn_net.specs.declared.networks.Far.{Far}
 use Rattle.tn_net.specs.declared.networks.Far.TheVariants.{Nothing, Host, Link}
 use Rattle.tn_net.specs.Lines.{IsNamed, IsKnown}
-use Rattle.tn_net.specs.Tables.{entry, Joins, joins_host, joins_ends, Refuses, taken_one, taken_two}
+use Rattle.tn_net.specs.Inner.Tables.{entry, Joins, joins_host, joins_ends, Refuses, taken_one, taken_two}
 use Rattle.tn_net.proofs.Places.{some_same}
 
 -- what a line of one end gives

@@ -3,7 +3,7 @@ use Rattle.std.proofs.Common.{◌≡◌, ℕ, ◌+◌, ◌*◌, ◌<◌, ◌≤�
 use Rattle.tn_net.specs.declared.networks.Far.TheVariants.{Link}
 use Rattle.tn_net.specs.Networks.{NetworkState, far_at}
 use Rattle.tn_net.specs.Paths.{Leads, ComesBefore, IsLess}
-use Rattle.tn_net.specs.Visits.{rank_from}
+use Rattle.tn_net.specs.Inner.Visits.{rank_from}
 
 -- links of a processor
 abbrev pub AreLinks : List ℕ → Type 0

@@ -8,17 +8,17 @@ use Rattle.tn_net.specs.declared.lines.EndLine.{EndLine}
 use Rattle.tn_net.specs.declared.lines.Refusal.{Refusal}
 use Rattle.tn_net.specs.declared.networks.Far.{Far}
 use Rattle.tn_net.specs.declared.networks.Far.TheVariants.{Nothing, Host, Link}
-use Rattle.tn_net.specs.Lines.{IsNamed, IsKnown, AreDistinct, line_at, HasEnd, Wires, StandsBefore, HasLinks, DifferInNumber}
+use Rattle.tn_net.specs.Lines.{IsNamed, IsKnown, AreDistinct, line_at, HasEnd, Wires, IsTakenBefore, HasLinks, DifferInNumber}
 use Rattle.tn_net.specs.Faults.{IsRight, IsFirstWrong, IsWrong, one_unknown, two_unknown, one_twice, two_twice}
 use Rattle.tn_net.specs.Networks.{end_of}
-use Rattle.tn_net.specs.Tables.{entry, Shows, IsTable, IsNext, Joins, joins_host, joins_ends, Refuses, refuses_one, refuses_two, taken_one, taken_two, cause_of, AllBefore, IsWired}
+use Rattle.tn_net.specs.Inner.Tables.{entry, Shows, IsTable, IsNext, Joins, joins_host, joins_ends, Refuses, refuses_one, refuses_two, taken_one, taken_two, cause_of, AllBefore, IsWired}
 use Rattle.tn_net.proofs.Places.{end_is, one_end, some_same}
 
 same_or_other : (i j : ℕ) → (i ≡ j) ⊎ (i ≢ j)
 same_or_other i j = grind arith
 
 -- what stands in an entry of the table shows that the end stands on a line
-pub stands_shown : (names : List (List ℕ × ℕ × ℕ)) (lines : List EndLine) (n : ℕ) (end : LinkEnd) (v : Far) → v ≢ Nothing → Shows names lines n end v → StandsBefore lines n end
+pub stands_shown : (names : List (List ℕ × ℕ × ℕ)) (lines : List EndLine) (n : ℕ) (end : LinkEnd) (v : Far) → v ≢ Nothing → Shows names lines n end v → IsTakenBefore lines n end
 stands_shown names lines n end Nothing some h = absurd (some refl)
 stands_shown names lines n end Host some h = record { place = h.place; here = h.here; before = h.before; named = inl h.one }
 stands_shown names lines n end (Link q m) some h =
@@ -29,7 +29,7 @@ stands_shown names lines n end (Link q m) some h =
     either (inr w) = inr w.1
 
 -- a line before a number is one before a greater number
-pub stands_later : (lines : List EndLine) (a b : ℕ) (end : LinkEnd) → a ≤ b → StandsBefore lines a end → StandsBefore lines b end
+pub stands_later : (lines : List EndLine) (a b : ℕ) (end : LinkEnd) → a ≤ b → IsTakenBefore lines a end → IsTakenBefore lines b end
 stands_later lines a b end h s = record { place = s.place; here = s.here; before = omega (arith, h, s.before); named = s.named }
 
 -- a line before the next stands before the number
@@ -47,11 +47,11 @@ one_line lines j k differ hj hk same =
     omega (arith, a, b)
 
 -- no line stands between the next and the number
-pub stands_earlier : (lines : List EndLine) (n k : ℕ) (end : LinkEnd) → IsNext lines n (length lines) k → StandsBefore lines (line_at lines k).line end → StandsBefore lines n end
+pub stands_earlier : (lines : List EndLine) (n k : ℕ) (end : LinkEnd) → IsNext lines n (length lines) k → IsTakenBefore lines (line_at lines k).line end → IsTakenBefore lines n end
 stands_earlier lines n k end next s = record { place = s.place; here = s.here; before = below_next lines n k s.place next s.here s.before; named = s.named }
 
 -- a line up to the next stands before the number, or is the next
-pub stands_there : (lines : List EndLine) (n k : ℕ) (end : LinkEnd) → DifferInNumber lines → IsNext lines n (length lines) k → (HasEnd (line_at lines k) end → ⊥) → StandsBefore lines ((line_at lines k).line + 1) end → StandsBefore lines n end
+pub stands_there : (lines : List EndLine) (n k : ℕ) (end : LinkEnd) → DifferInNumber lines → IsNext lines n (length lines) k → (HasEnd (line_at lines k) end → ⊥) → IsTakenBefore lines ((line_at lines k).line + 1) end → IsTakenBefore lines n end
 stands_there lines n k end differ next off s = elim cases [ inl below ↦ stands_earlier lines n k end next (record { place = s.place; here = s.here; before = below; named = s.named }) | inr same ↦ absurd (off (subst (λ i. HasEnd (line_at lines i) end) (one_line lines s.place k differ s.here next.here same) s.named)) ]
   where
     cases : ((line_at lines s.place).line < (line_at lines k).line) ⊎ ((line_at lines s.place).line ≡ (line_at lines k).line)
@@ -71,16 +71,16 @@ begins names lines fars is = record {
 }
 
 -- an end with an empty entry stands on no line before the next
-pub free_end : (names : List (List ℕ × ℕ × ℕ)) (lines : List EndLine) (n k : ℕ) (fars : List Far) (end : LinkEnd) (p : ℕ) → IsTable names lines n fars → IsNext lines n (length lines) k → IsNamed names end.name p → end.link < 4 → entry fars p end.link ≡ Nothing → StandsBefore lines (line_at lines k).line end → ⊥
+pub free_end : (names : List (List ℕ × ℕ × ℕ)) (lines : List EndLine) (n k : ℕ) (fars : List Far) (end : LinkEnd) (p : ℕ) → IsTable names lines n fars → IsNext lines n (length lines) k → IsNamed names end.name p → end.link < 4 → entry fars p end.link ≡ Nothing → IsTakenBefore lines (line_at lines k).line end → ⊥
 free_end names lines n k fars end p table next named hl free s =
     let shown : Shows names lines n (end_of names p end.link) Nothing = subst (λ v. Shows names lines n (end_of names p end.link) v) free (table.shows p end.link named.here hl) in
-    shown (subst (λ e. StandsBefore lines n e) (end_is names end p named) (stands_earlier lines n k end next s))
+    shown (subst (λ e. IsTakenBefore lines n e) (end_is names end p named) (stands_earlier lines n k end next s))
 
 -- an end with a full entry stands on a line before the next
-pub taken_end : (names : List (List ℕ × ℕ × ℕ)) (lines : List EndLine) (n k : ℕ) (fars : List Far) (end : LinkEnd) (p : ℕ) → IsTable names lines n fars → IsNext lines n (length lines) k → IsNamed names end.name p → end.link < 4 → entry fars p end.link ≢ Nothing → StandsBefore lines (line_at lines k).line end
+pub taken_end : (names : List (List ℕ × ℕ × ℕ)) (lines : List EndLine) (n k : ℕ) (fars : List Far) (end : LinkEnd) (p : ℕ) → IsTable names lines n fars → IsNext lines n (length lines) k → IsNamed names end.name p → end.link < 4 → entry fars p end.link ≢ Nothing → IsTakenBefore lines (line_at lines k).line end
 taken_end names lines n k fars end p table next named hl taken =
     stands_later lines n (line_at lines k).line end next.from
-    (subst (λ e. StandsBefore lines n e) (sym (end_is names end p named)) (stands_shown names lines n (end_of names p end.link) (entry fars p end.link) taken (table.shows p end.link named.here hl)))
+    (subst (λ e. IsTakenBefore lines n e) (sym (end_is names end p named)) (stands_shown names lines n (end_of names p end.link) (entry fars p end.link) taken (table.shows p end.link named.here hl)))
 
 -- another entry than the one written
 pub other_entry : (fars : List Far) (i : ℕ) (v : Far) (p l : ℕ) → i ≢ 4 * p + l → entry (set fars i v) p l ≡ entry fars p l
@@ -107,7 +107,7 @@ joins_right names lines n k old new distinct links table next (joins_host p none
 joins_right names lines n k old new distinct links table next (joins_ends p q end two named other free clear is) = record {
   known = record { one = (p, named); two = λ e some. subst (λ x. IsKnown names x.name) (some_same end e (sym two ∙ some)) (q, other) };
   one = free_end names lines n k old (line_at lines k).one p table next named links.one free;
-  two = λ e some. subst (λ x. StandsBefore lines (line_at lines k).line x → ⊥) (some_same end e (sym two ∙ some)) (free_end names lines n k old end q table next other (links.two end two) (sym (other_entry old (4 * p + (line_at lines k).one.link) (Link q end.link) q end.link ne) ∙ clear));
+  two = λ e some. subst (λ x. IsTakenBefore lines (line_at lines k).line x → ⊥) (some_same end e (sym two ∙ some)) (free_end names lines n k old end q table next other (links.two end two) (sym (other_entry old (4 * p + (line_at lines k).one.link) (Link q end.link) q end.link ne) ∙ clear));
   apart = λ some. again (some_same end (line_at lines k).one (sym two ∙ some));
 }
   where

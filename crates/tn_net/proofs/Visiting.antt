@@ -10,8 +10,9 @@ use Rattle.std.proofs.lemmas.Map.Steps.{length-le_from_distinct_below}
 use Rattle.tn_net.specs.declared.networks.Far.TheVariants.{Link}
 use Rattle.tn_net.specs.declared.paths.Reached.{Reached}
 use Rattle.tn_net.specs.Networks.{NetworkState, far_at, IsEnd, IsPairing}
-use Rattle.tn_net.specs.Paths.{Leads, IsLess, step_at, path_at, Extends, AreReached}
-use Rattle.tn_net.specs.Visits.{rank_from, rank_at, IsFound, IsVisited}
+use Rattle.tn_net.specs.Paths.{Leads, IsLess, path_at}
+use Rattle.tn_net.specs.Inner.Walks.{step_at, Extends, AreReached}
+use Rattle.tn_net.specs.Inner.Visits.{rank_from, rank_at, IsFound, IsVisited}
 use Rattle.tn_net.proofs.Ranks.{leads_links, leads_more, rank_more, rank_above, ranked}
 
 -- ---- the processors that were found
@@ -74,6 +75,7 @@ passed n order i l v hi next = record {
   begins = v.begins;
   first = v.first;
   boot = v.boot;
+  no_link = v.no_link;
   extends = v.extends;
 }
   where
@@ -242,6 +244,7 @@ module _ (n : NetworkState) (order : List Reached) (i l q b : ℕ) (pairing : Is
     begins = old_path 0 v.root ∙ v.begins;
     first = ap (λ (s : Reached). s.processor) (old_step 0 v.root) ∙ v.first;
     boot = ap (λ (s : Reached). s.boot_link) (old_step 0 v.root) ∙ v.boot;
+    no_link = ap (λ (s : Reached). s.parent_link) (old_step 0 v.root) ∙ v.no_link;
     extends = λ k h hk. elim (old_or_new k hk) [ inl old ↦ old_extends k old (v.extends k h old) | inr same ↦ subst (λ x. Extends n steps ways x (step_at steps x)) (sym same) new_extends ];
   }
 
@@ -262,6 +265,7 @@ next_processor n order i hi v = record {
   begins = v.begins;
   first = v.first;
   boot = v.boot;
+  no_link = v.no_link;
   extends = v.extends;
 }
   where
@@ -294,6 +298,7 @@ root_alone n pairing = record {
   begins = refl;
   first = refl;
   boot = refl;
+  no_link = refl;
   extends = λ k h hk. absurd (omega (arith, h, hk));
 }
   where
@@ -328,6 +333,7 @@ all_reached n order i v all = record {
   all = λ q path h. let f : IsFound order v.paths (rank_from 1 path) q = found_by n order i v all path q h in (f.place, f.here, f.is);
   root = v.root;
   boot = v.boot;
+  no_link = v.no_link;
   extends = v.extends;
 }
   where

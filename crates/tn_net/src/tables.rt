@@ -2,7 +2,7 @@ ghost use Rattle.std.specs.Prelude.{◌≡◌, ℕ, ◌+◌, ◌*◌, ◌≤◌,
 ghost use Rattle.tn_text.specs.declared.faults.ReadFault.TheVariants as read;
 ghost use Rattle.tn_net.specs.Lines.{AreDistinct, HasLinks, line_at, DifferInNumber};
 ghost use Rattle.tn_net.specs.Faults.{IsFirstWrong};
-ghost use Rattle.tn_net.specs.Tables.{entry, IsNext, AllBefore, Joins, Refuses, IsWired};
+ghost use Rattle.tn_net.specs.Inner.Tables.{entry, IsNext, AllBefore, Joins, Refuses, IsWired};
 
 use crate::lines::{EndLine, LinkEnd, Refusal};
 use crate::names::processor;

@@ -1,6 +1,6 @@
 use Rattle.std.proofs.Common.{◌≡◌, ◌<◌, List, [], ◌∷◌, ◌++◌, length, sym, ◌∙◌, ap, subst, arith}
 use Rattle.tn_net.specs.declared.paths.Reached.{Reached}
-use Rattle.tn_net.specs.Visits.{IsVisited}
+use Rattle.tn_net.specs.Inner.Visits.{IsVisited}
 use Rattle.tn_net.proofs.Visiting.{root_alone, next_processor, few_found, all_reached}
 use Rattle.tn_net.proofs.paths.walk.Goals as goal
 

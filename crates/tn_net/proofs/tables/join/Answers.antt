@@ -1,4 +1,4 @@
-use Rattle.tn_net.specs.Tables.{Joins, Refuses, refuses_two}
+use Rattle.tn_net.specs.Inner.Tables.{Joins, Refuses, refuses_two}
 use Rattle.tn_net.proofs.Joining.{host_joined, ends_joined, one_taken, passed_on}
 use Rattle.tn_net.proofs.tables.join.Goals as goal
 

@@ -4,7 +4,7 @@ use Rattle.tn_text.specs.Faults.{fault_at}
 use Rattle.tn_net.specs.declared.lines.EndLine.{EndLine}
 use Rattle.tn_net.specs.Lines.{line_at, HasLinks}
 use Rattle.tn_net.specs.Faults.{IsRight, IsWrong, IsFirstWrong}
-use Rattle.tn_net.specs.Tables.{IsTable, Joins, Refuses, cause_of}
+use Rattle.tn_net.specs.Inner.Tables.{IsTable, Joins, Refuses, cause_of}
 use Rattle.tn_net.proofs.Reading.{joined_table, joins_right, refused_wrong, right_more, first_wrong, line_read}
 use Rattle.tn_net.proofs.tables.wired.Goals as goal
 

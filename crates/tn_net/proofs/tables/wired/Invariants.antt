@@ -1,7 +1,7 @@
 use Rattle.std.proofs.Common.{ℕ, ◌-◌, ◌^◌, ◌≤◌, ◌<◌, length}
 use Rattle.tn_net.specs.Lines.{line_at}
 use Rattle.tn_net.specs.Faults.{IsRight}
-use Rattle.tn_net.specs.Tables.{IsTable}
+use Rattle.tn_net.specs.Inner.Tables.{IsTable}
 use Rattle.tn_net.proofs.tables.wired.Given as goal
 
 -- the table shows what the lines with lower numbers say, and nothing is wrong with those

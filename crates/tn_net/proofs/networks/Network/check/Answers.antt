@@ -5,15 +5,15 @@ use Rattle.tn_text.specs.declared.faults.FaultCode.TheVariants.{NoHost}
 use Rattle.tn_text.specs.Faults.{fault_at, bare}
 use Rattle.tn_net.specs.RawNetworks.{raw_of}
 use Rattle.tn_net.specs.Lines.{line_of, name_at, IsKnown, IsRepeated, AreDistinct, end_lines}
-use Rattle.tn_net.specs.Faults.{IsFaultless, IsFirstFault, IsFirstWrong, duplicate, repeated, wrong, hostless}
-use Rattle.tn_net.specs.Tables.{IsWired}
+use Rattle.tn_net.specs.Faults.{IsFaultless, IsNetworkFault, IsFirstWrong, duplicate, repeated, wrong, hostless}
+use Rattle.tn_net.specs.Inner.Tables.{IsWired}
 use Rattle.tn_net.proofs.Faultless.{faultless_or_fault, one_first_fault, gives_first}
 use Rattle.tn_net.proofs.Joining.{error_is, no_value}
 use Rattle.tn_net.proofs.Described.{Gives, gives, wired_read, described, paired, faultless, root_known}
 use Rattle.tn_net.proofs.networks.Network.check.Goals as goal
 
 pub returns-in-Some-clause-fault : goal.returns-in-Some-clause-fault
-returns-in-Some-clause-fault c = λ fault is. let e : c.at.result ≡ fault = cc in subst (λ f. IsFirstFault (raw_of c.args.raw.now) f) (told ∙ e) (repeated (record { place = c.in-Some.place; here = first.0; before = first.1; repeated = first.2; told = refl }))
+returns-in-Some-clause-fault c = λ fault is. let e : c.at.result ≡ fault = cc in subst (λ f. IsNetworkFault (raw_of c.args.raw.now) f) (told ∙ e) (repeated (record { place = c.in-Some.place; here = first.0; before = first.1; repeated = first.2; told = refl }))
   where
     first : (c.in-Some.place < length c.args.raw.now.names.items) × AreDistinct c.args.raw.now.names.items c.in-Some.place × IsRepeated c.args.raw.now.names.items c.in-Some.place
     first = subst (λ names. (c.in-Some.place < length names) × AreDistinct names c.in-Some.place × IsRepeated names c.in-Some.place) c.deref.ensures.value c.in-Some.ensures
@@ -32,7 +32,7 @@ returns-in_err-fars-clause-fault c = λ fault is.
     (c.in_err-fars.ensures.fault fault (ap Err (error_is c.from_residual-in_err-fars.result c.in_err-fars.field-0.0 (read.Fault fault) c.from_residual-in_err-fars.ensures.1 is)))))
 
 pub returns-in_default-host-clause-fault : goal.returns-in_default-host-clause-fault
-returns-in_default-host-clause-fault c = λ fault is. let e : c.at-in_default-host.result ≡ fault = cc in subst (λ f. IsFirstFault (raw_of c.args.raw.now) f) (told ∙ e)
+returns-in_default-host-clause-fault c = λ fault is. let e : c.at-in_default-host.result ≡ fault = cc in subst (λ f. IsNetworkFault (raw_of c.args.raw.now) f) (told ∙ e)
     (hostless (subst (λ names. AreDistinct names (length names)) c.deref.ensures.value c.in_default.ensures) wired.right (record { none = c.in_default-host.is; told = refl }))
   where
     wired : IsWired c.args.raw.now.names.items (end_lines (raw_of c.args.raw.now)) c.in_ok-fars.fars.items

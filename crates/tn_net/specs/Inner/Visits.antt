@@ -4,7 +4,8 @@ use Rattle.std.specs.List.{IsDistinct}
 use Rattle.tn_net.specs.declared.networks.Far.TheVariants.{Link}
 use Rattle.tn_net.specs.declared.paths.Reached.{Reached}
 use Rattle.tn_net.specs.Networks.{NetworkState, far_at}
-use Rattle.tn_net.specs.Paths.{Leads, step_at, path_at, Extends}
+use Rattle.tn_net.specs.Paths.{Leads, path_at}
+use Rattle.tn_net.specs.Inner.Walks.{step_at, Extends}
 
 -- The rank of a list of links below 4 behind a list of this rank: shorter lists have lower ranks, and
 -- among lists of one length those that come before.
@@ -37,4 +38,5 @@ pub record IsVisited (n : NetworkState) (order : List Reached) (i l : ℕ) : Typ
   pub begins : path_at paths 0 ≡ []
   pub first : (step_at order 0).processor ≡ n.root
   pub boot : (step_at order 0).boot_link ≡ n.root_link
+  pub no_link : (step_at order 0).parent_link ≡ 0
   pub extends : (k : ℕ) → 0 < k → k < length order → Extends n order paths k (step_at order k)

@@ -7,7 +7,7 @@ use Rattle.tn_net.specs.declared.lines.Refusal.{Refusal}
 use Rattle.tn_net.specs.declared.lines.Refusal.TheVariants.{Unknown, Taken}
 use Rattle.tn_net.specs.declared.networks.Far.{Far}
 use Rattle.tn_net.specs.declared.networks.Far.TheVariants.{Nothing, Host, Link}
-use Rattle.tn_net.specs.Lines.{IsNamed, IsKnown, line_at, StandsBefore, Wires}
+use Rattle.tn_net.specs.Lines.{IsNamed, IsKnown, line_at, IsTakenBefore, Wires}
 use Rattle.tn_net.specs.Faults.{unknown, twice, AreRight}
 use Rattle.tn_net.specs.Networks.{end_of}
 
@@ -32,7 +32,7 @@ pub record WiredBefore (lines : List EndLine) (number : ℕ) (end far : LinkEnd)
 
 -- what the lines before the number say of an end
 abbrev pub Shows : List (List ℕ × ℕ × ℕ) → List EndLine → ℕ → LinkEnd → Far → Type 0
-Shows names lines number end Nothing = StandsBefore lines number end → ⊥
+Shows names lines number end Nothing = IsTakenBefore lines number end → ⊥
 Shows names lines number end Host = HostBefore lines number end
 Shows names lines number end (Link q m) = (q < length names) × (m < 4) × WiredBefore lines number end (end_of names q m)
 
