@@ -8,7 +8,8 @@ use Rattle.tn_net.proofs.Dictionary.{stands_trans, stands_self, more_after}
 use Rattle.tn_net.proofs.Growing.{node_once}
 
 -- a list that extends another doesn't stand between that one's extensions by a lower list and itself
-no_crossing : (f a t : List ℕ) (l : ℕ) → PrecedesInDictionary f a → PrecedesInDictionary a (f ++ l ∷ []) → PrecedesInDictionary (f ++ l ∷ []) (a ++ t) → ⊥
+no_crossing : (f a t : List ℕ) (l : ℕ) → PrecedesInDictionary f a → PrecedesInDictionary a (f ++ l ∷ [])
+    → PrecedesInDictionary (f ++ l ∷ []) (a ++ t) → ⊥
 no_crossing [] [] t l p q r = absurd p
 no_crossing [] (x ∷ a) t l p (inl less) (inl more) = omega (arith, less, more)
 no_crossing [] (x ∷ a) t l p (inl less) (inr same) = omega (arith, less, same.0)
@@ -57,14 +58,23 @@ module _ (n : NetworkState) (w : IsPairing n) (nodes : List LoadNode) (few : len
       orphan : k ≡ 0 → ⊥
       orphan e = let none : (node_at nodes k).parent ≡ None = ap (λ x. (node_at nodes x).parent) e ∙ t.top in cc
 
-  extended : (k q : ℕ) → k < length nodes → (node_at nodes k).parent ≡ Some q → (q < length nodes) × (path k ≡ path q ++ (node_at nodes k).parent_link ∷ [])
+  extended : (k q : ℕ) → k < length nodes → (node_at nodes k).parent ≡ Some q
+      → (q < length nodes) × (path k ≡ path q ++ (node_at nodes k).parent_link ∷ [])
   extended k q h is =
       let x = hung k q h is in
       let same : x.place ≡ q = same_place x.place q (sym x.parent ∙ is) in
       (subst (λ p. p < length nodes) same x.here, x.path ∙ ap (λ p. path p ++ (node_at nodes k).parent_link ∷ []) same)
 
   parent_before : (k q : ℕ) → k < length nodes → (node_at nodes k).parent ≡ Some q → q < k
-  parent_before k q h is = elim (cases_at q k) [ inl less ↦ less | inr rest ↦ elim rest [ inl same ↦ absurd (stands_self (path q) (subst (λ x. PrecedesInDictionary (path q) (path x)) (sym same) after)) | inr more ↦ absurd (stands_self (path q) (stands_trans (path q) (path k) (path q) after (t.order k q more x.0))) ] ]
+  parent_before k q h is =
+      elim (cases_at q k) [
+        | inl less ↦ less
+        | inr rest ↦ elim rest [
+          | inl same ↦ absurd
+              (stands_self (path q) (subst (λ x. PrecedesInDictionary (path q) (path x)) (sym same) after))
+          | inr more ↦ absurd (stands_self (path q) (stands_trans (path q) (path k) (path q) after (t.order k q more x.0)))
+        ]
+      ]
     where
       x : (q < length nodes) × (path k ≡ path q ++ (node_at nodes k).parent_link ∷ [])
       x = extended k q h is
@@ -72,7 +82,8 @@ module _ (n : NetworkState) (w : IsPairing n) (nodes : List LoadNode) (few : len
       after : PrecedesInDictionary (path q) (path k)
       after = subst (λ p. PrecedesInDictionary (path q) p) (sym x.1) (more_after (path q) (node_at nodes k).parent_link)
 
-  between : (k p : ℕ) → k < length nodes → (node_at nodes k).parent ≡ Some p → (j q : ℕ) → p < j → j < k → (node_at nodes j).parent ≡ Some q → p ≤ q
+  between : (k p : ℕ) → k < length nodes → (node_at nodes k).parent ≡ Some p → (j q : ℕ) → p < j → j < k
+      → (node_at nodes j).parent ≡ Some q → p ≤ q
   between k p h is j q low high mine = elim (cases_at q p) [ inl less ↦ absurd (crossed less) | inr rest ↦ omega (arith, rest) ]
     where
       hj : j < length nodes
@@ -88,22 +99,26 @@ module _ (n : NetworkState) (w : IsPairing n) (nodes : List LoadNode) (few : len
       crossed less =
           no_crossing (path q) (path p) ((node_at nodes k).parent_link ∷ []) (node_at nodes j).parent_link (t.order q p less x.0)
           (subst (λ a. PrecedesInDictionary (path p) a) y.1 (t.order p j low hj))
-          (subst (λ a. PrecedesInDictionary a (path p ++ (node_at nodes k).parent_link ∷ [])) y.1 (subst (λ a. PrecedesInDictionary (path j) a) x.1 (t.order j k high h)))
+          (subst (λ a. PrecedesInDictionary a (path p ++ (node_at nodes k).parent_link ∷ [])) y.1
+          (subst (λ a. PrecedesInDictionary (path j) a) x.1 (t.order j k high h)))
 
   below : (k : ℕ) → 0 < k → k < length nodes → IsBelow nodes k
   below k more h =
       let x = t.below k more h in
       record { parent = x.place; is = x.parent; before = parent_before k x.place h x.parent; between = between k x.place h x.parent }
 
-  rising : (j k p : ℕ) → j < k → k < length nodes → (node_at nodes j).parent ≡ Some p → (node_at nodes k).parent ≡ Some p → (node_at nodes j).parent_link < (node_at nodes k).parent_link
+  rising : (j k p : ℕ) → j < k → k < length nodes → (node_at nodes j).parent ≡ Some p → (node_at nodes k).parent ≡ Some p
+      → (node_at nodes j).parent_link < (node_at nodes k).parent_link
   rising j k p less h mine other =
       let x = extended j p (omega (arith, less, h)) mine in
       let y = extended k p h other in
       lower_link (path p) (node_at nodes j).parent_link (node_at nodes k).parent_link
-      (subst (λ a. PrecedesInDictionary a (path p ++ (node_at nodes k).parent_link ∷ [])) x.1 (subst (λ a. PrecedesInDictionary (path j) a) y.1 (t.order j k less h)))
+      (subst (λ a. PrecedesInDictionary a (path p ++ (node_at nodes k).parent_link ∷ [])) x.1
+      (subst (λ a. PrecedesInDictionary (path j) a) y.1 (t.order j k less h)))
 
   placed : (k : ℕ) → k < length nodes → IsPlaced (node_at nodes k) (length n.sizes)
-  placed k h = elim (cases_first k) [ inl first ↦ subst (λ x. IsPlaced (node_at nodes x) (length n.sizes)) (sym first) root | inr more ↦ other more ]
+  placed k h =
+      elim (cases_first k) [ inl first ↦ subst (λ x. IsPlaced (node_at nodes x) (length n.sizes)) (sym first) root | inr more ↦ other more ]
     where
       root : IsPlaced (node_at nodes 0) (length n.sizes)
       root = record {
@@ -115,11 +130,14 @@ module _ (n : NetworkState) (w : IsPairing n) (nodes : List LoadNode) (few : len
       other : 0 < k → IsPlaced (node_at nodes k) (length n.sizes)
       other more =
           let x = t.below k more h in
-          let end : IsEnd n (node_at nodes x.place).processor (node_at nodes k).parent_link = record { processor = processor_inside x.place x.here; link = x.link } in
+          let end : IsEnd n (node_at nodes x.place).processor
+          (node_at nodes k).parent_link = record { processor = processor_inside x.place x.here; link = x.link } in
           record {
             processor = processor_inside k h;
             parent_link = x.link;
-            boot_link = (w.ends (node_at nodes x.place).processor (node_at nodes k).parent_link (node_at nodes k).processor (node_at nodes k).boot_link end x.wire).link;
+            boot_link =
+                (w.ends (node_at nodes x.place).processor (node_at nodes k).parent_link (node_at nodes k).processor
+                (node_at nodes k).boot_link end x.wire).link;
           }
 
   pub load_tree_whole : IsWholeTree nodes (length n.sizes)

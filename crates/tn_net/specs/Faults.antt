@@ -39,9 +39,11 @@ pub record IsRight (names : List (List ℕ × ℕ × ℕ)) (lines : List EndLine
 -- one end stands on a line with a lower number; else the other does, or is the one end again.
 pub data IsWrong (names : List (List ℕ × ℕ × ℕ)) (lines : List EndLine) (line : EndLine) (cause : Cause) : Type 0 where
   one_unknown : (IsKnown names line.one.name → ⊥) → cause ≡ unknown line.one → IsWrong names lines line cause
-  two_unknown : (end : LinkEnd) → line.two ≡ Some end → IsKnown names line.one.name → (IsKnown names end.name → ⊥) → cause ≡ unknown end → IsWrong names lines line cause
+  two_unknown : (end : LinkEnd) → line.two ≡ Some end → IsKnown names line.one.name → (IsKnown names end.name → ⊥) → cause ≡ unknown end
+      → IsWrong names lines line cause
   one_twice : NamesProcessors names line → IsTakenBefore lines line.line line.one → cause ≡ twice line.one → IsWrong names lines line cause
-  two_twice : (end : LinkEnd) → line.two ≡ Some end → NamesProcessors names line → (IsTakenBefore lines line.line line.one → ⊥) → IsTakenBefore lines line.line end ⊎ (line.one ≡ end) → cause ≡ twice end → IsWrong names lines line cause
+  two_twice : (end : LinkEnd) → line.two ≡ Some end → NamesProcessors names line → (IsTakenBefore lines line.line line.one → ⊥)
+      → IsTakenBefore lines line.line end ⊎ (line.one ≡ end) → cause ≡ twice end → IsWrong names lines line cause
 
 -- nothing is wrong with any of the lines
 abbrev pub AreRight : List (List ℕ × ℕ × ℕ) → List EndLine → Type 0

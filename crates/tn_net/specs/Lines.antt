@@ -41,7 +41,8 @@ host_lines (Some host) = record { one = record { name = host.0; link = host.1 };
 
 -- the line of a wire
 abbrev pub wire_line : (List ℕ × ℕ × List ℕ × ℕ × ℕ) → EndLine
-wire_line wire = record { one = record { name = wire.0; link = wire.1 }; two = Some (record { name = wire.2; link = wire.3 }); line = wire.4 }
+wire_line wire =
+    record { one = record { name = wire.0; link = wire.1 }; two = Some (record { name = wire.2; link = wire.3 }); line = wire.4 }
 
 -- the lines that wire ends
 abbrev pub end_lines : RawLists → List EndLine

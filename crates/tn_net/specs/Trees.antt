@@ -1,5 +1,6 @@
 -- Load trees: the processors in load order, each with its parent and its children.
-use Rattle.std.specs.Prelude.{◌≡◌, ⊤, ℕ, zero, suc, ◌<◌, ◌⊎◌, ◌++◌, Bool, false, List, [], ◌∷◌, length, slice_index_or, Option, Some, None, nat_eq, if◌then◌else◌}
+use Rattle.std.specs.Prelude.{◌≡◌, ⊤, ℕ, zero, suc, ◌<◌, ◌⊎◌, ◌++◌, Bool, false, List, [], ◌∷◌, length, slice_index_or, Option, Some, None}
+use Rattle.std.specs.Prelude.{nat_eq, if◌then◌else◌}
 use Rattle.tn_net.specs.declared.networks.Far.TheVariants.{Link}
 use Rattle.tn_net.specs.Networks.{NetworkState, far_at}
 use Rattle.tn_net.specs.Paths.{Leads, IsPath, path_at}
@@ -32,7 +33,8 @@ is_parent (Some p) k = nat_eq p k
 -- the places below c, rising, whose parent is the node at place k
 abbrev pub children_below : (ℕ → Option ℕ) → ℕ → ℕ → List ℕ
 children_below parent_at k zero = []
-children_below parent_at k (suc c) = if is_parent (parent_at c) k then children_below parent_at k c ++ c ∷ [] else children_below parent_at k c
+children_below parent_at k (suc c) =
+    if is_parent (parent_at c) k then children_below parent_at k c ++ c ∷ [] else children_below parent_at k c
 
 -- the node at the place k hangs by its links below that at the place of its parent
 pub record HangsBelow (n : NetworkState) (nodes : List LoadNode) (paths : List (List ℕ)) (k : ℕ) (node : LoadNode) : Type 0 where

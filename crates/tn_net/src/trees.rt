@@ -4,7 +4,8 @@ ghost use Rattle.tn_net.specs.Networks.{NetworkState};
 ghost use Rattle.tn_net.specs.Inner.Walks.{AreReached, step_at};
 ghost use Rattle.tn_net.specs.WholeTrees.{IsWholeTree};
 ghost use Rattle.tn_net.specs.Trees.{IsLoadTree, IsFirstUnreachable, children_below, is_parent};
-ghost use Rattle.tn_net.specs.Inner.Loads.{IsThere, AreThere, ArePaths, HasEachPlace, IsInLoadOrder, IsFamily, EndsAt, IsParentAt, AreParents, IsNodeOf, AreNodes, place_at, parent_at};
+ghost use Rattle.tn_net.specs.Inner.Loads.{IsThere, AreThere, ArePaths, HasEachPlace, IsInLoadOrder, IsFamily, EndsAt, IsParentAt};
+ghost use Rattle.tn_net.specs.Inner.Loads.{AreParents, IsNodeOf, AreNodes, place_at, parent_at};
 
 use crate::networks::Network;
 use crate::paths::{Reached, is_reached, walk};
@@ -28,7 +29,13 @@ impl Model for TreeNode {
 
     ghost Value = { LoadNode };
 
-    ghost view = { λ n. record { processor = n.processor; parent = n.parent; parent_link = n.parent_link; boot_link = n.boot_link; children = n.children.items } };
+    ghost view = { λ n. record {
+      processor = n.processor;
+      parent = n.parent;
+      parent_link = n.parent_link;
+      boot_link = n.boot_link;
+      children = n.children.items;
+    } };
 }
 
 /// The processors in load order: a parent comes before each child's subtree.
@@ -74,7 +81,8 @@ pub fn load_tree(alloc: Global, network: &Network) -> Result<Tree, TreeFault>
 
 /// The first processor that no step is to.
 fn first_missing(order: &[Reached], count: u32) -> Option<u32>
-    ensures { MatchOption result ((q : ℕ) → q < count → IsThere order.now q) (λ p. (p < count) × (IsThere order.now p → ⊥) × ((q : ℕ) → q < p → IsThere order.now q)) }
+    ensures { MatchOption result ((q : ℕ) → q < count → IsThere order.now q)
+        (λ p. (p < count) × (IsThere order.now p → ⊥) × ((q : ℕ) → q < p → IsThere order.now q)) }
 {
     for p in 0..count {
         if !is_reached(order, p) {

@@ -20,7 +20,8 @@ pub record ArePaths (order : List Reached) (paths : List (List ℕ)) : Type 0 wh
   pub root : 0 < length order
   pub begins : path_at paths 0 ≡ []
   pub before : (k : ℕ) → 0 < k → k < length order → (step_at order k).parent < k
-  pub path : (k : ℕ) → 0 < k → k < length order → path_at paths k ≡ path_at paths (step_at order k).parent ++ (step_at order k).parent_link ∷ []
+  pub path : (k : ℕ) → 0 < k → k < length order
+      → path_at paths k ≡ path_at paths (step_at order k).parent ++ (step_at order k).parent_link ∷ []
 
 -- the number at a place
 abbrev pub place_at : List ℕ → ℕ → ℕ
@@ -35,7 +36,8 @@ pub record HasEachPlace (load : List ℕ) (k : ℕ) : Type 0 where
 
 -- the paths stand in the order of a dictionary
 abbrev pub AreRising : List (List ℕ) → List ℕ → Type 0
-AreRising paths load = (s t : ℕ) → s < t → t < length load → PrecedesInDictionary (path_at paths (place_at load s)) (path_at paths (place_at load t))
+AreRising paths load =
+    (s t : ℕ) → s < t → t < length load → PrecedesInDictionary (path_at paths (place_at load s)) (path_at paths (place_at load t))
 
 -- the steps below k stand in load order
 pub record IsInLoadOrder (order : List Reached) (load : List ℕ) (k : ℕ) : Type 0 where
@@ -54,7 +56,8 @@ pub record EndsAt (order : List Reached) (load : List ℕ) (parent seen end : �
 
 -- where the parent of a step stands; the first has none
 abbrev pub IsParentAt : List Reached → List ℕ → ℕ → Option ℕ → Type 0
-IsParentAt order load place parent = MatchOption parent (place ≡ 0) (λ t. (0 < place) × (t < length load) × (place_at load t ≡ (step_at order place).parent))
+IsParentAt order load place parent =
+    MatchOption parent (place ≡ 0) (λ t. (0 < place) × (t < length load) × (place_at load t ≡ (step_at order place).parent))
 
 -- the parent at a place
 abbrev pub parent_at : List (Option ℕ) → ℕ → Option ℕ

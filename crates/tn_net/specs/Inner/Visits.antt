@@ -33,7 +33,8 @@ pub record IsVisited (n : NetworkState) (order : List Reached) (i l : ℕ) : Typ
   pub leads : (k : ℕ) → k < length order → Leads n n.root (path_at paths k) (step_at order k).processor
   pub rising : (j k : ℕ) → j < k → k < length order → rank_at paths j < rank_at paths k
   pub below : i < length order → (k : ℕ) → k < length order → rank_at paths k < 4 * rank_at paths i + l
-  pub done : (j m q b : ℕ) → j < length order → m < 4 → (j < i) ⊎ ((j ≡ i) × (m < l)) → far_at n (step_at order j).processor m ≡ Link q b → IsFound order paths (4 * rank_at paths j + m) q
+  pub done : (j m q b : ℕ) → j < length order → m < 4 → (j < i) ⊎ ((j ≡ i) × (m < l)) → far_at n (step_at order j).processor m ≡ Link q b
+      → IsFound order paths (4 * rank_at paths j + m) q
   pub root : 0 < length order
   pub begins : path_at paths 0 ≡ []
   pub first : (step_at order 0).processor ≡ n.root
