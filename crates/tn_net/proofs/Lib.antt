@@ -8,3 +8,4 @@ pub mod Visiting
 pub mod Dictionary
 pub mod Loading
 pub mod Growing
+pub mod Whole

@@ -8,7 +8,7 @@ use Rattle.tn_text.specs.Faults.{bare, fault_at}
 use Rattle.tn_net.specs.declared.lines.LinkEnd.{LinkEnd}
 use Rattle.tn_net.specs.declared.lines.EndLine.{EndLine}
 use Rattle.tn_net.specs.RawNetworks.{RawLists}
-use Rattle.tn_net.specs.Lines.{name_at, line_of, IsKnown, IsRepeated, AreDistinct, end_lines, line_at, StandsBefore}
+use Rattle.tn_net.specs.Lines.{name_at, line_of, IsKnown, IsRepeated, AreDistinct, end_lines, line_at, IsTakenBefore}
 
 -- no processor has the name of the end
 abbrev pub unknown : LinkEnd → Cause
@@ -31,17 +31,19 @@ pub record NamesProcessors (names : List (List ℕ × ℕ × ℕ)) (line : EndLi
 -- number, and differ
 pub record IsRight (names : List (List ℕ × ℕ × ℕ)) (lines : List EndLine) (line : EndLine) : Type 0 where
   pub known : NamesProcessors names line
-  pub one : StandsBefore lines line.line line.one → ⊥
-  pub two : (end : LinkEnd) → line.two ≡ Some end → StandsBefore lines line.line end → ⊥
+  pub one : IsTakenBefore lines line.line line.one → ⊥
+  pub two : (end : LinkEnd) → line.two ≡ Some end → IsTakenBefore lines line.line end → ⊥
   pub apart : line.two ≢ Some line.one
 
 -- What is wrong with the line: no processor has the name of the one end, or of the other; else the
 -- one end stands on a line with a lower number; else the other does, or is the one end again.
 pub data IsWrong (names : List (List ℕ × ℕ × ℕ)) (lines : List EndLine) (line : EndLine) (cause : Cause) : Type 0 where
   one_unknown : (IsKnown names line.one.name → ⊥) → cause ≡ unknown line.one → IsWrong names lines line cause
-  two_unknown : (end : LinkEnd) → line.two ≡ Some end → IsKnown names line.one.name → (IsKnown names end.name → ⊥) → cause ≡ unknown end → IsWrong names lines line cause
-  one_twice : NamesProcessors names line → StandsBefore lines line.line line.one → cause ≡ twice line.one → IsWrong names lines line cause
-  two_twice : (end : LinkEnd) → line.two ≡ Some end → NamesProcessors names line → (StandsBefore lines line.line line.one → ⊥) → StandsBefore lines line.line end ⊎ (line.one ≡ end) → cause ≡ twice end → IsWrong names lines line cause
+  two_unknown : (end : LinkEnd) → line.two ≡ Some end → IsKnown names line.one.name → (IsKnown names end.name → ⊥) → cause ≡ unknown end
+      → IsWrong names lines line cause
+  one_twice : NamesProcessors names line → IsTakenBefore lines line.line line.one → cause ≡ twice line.one → IsWrong names lines line cause
+  two_twice : (end : LinkEnd) → line.two ≡ Some end → NamesProcessors names line → (IsTakenBefore lines line.line line.one → ⊥)
+      → IsTakenBefore lines line.line end ⊎ (line.one ≡ end) → cause ≡ twice end → IsWrong names lines line cause
 
 -- nothing is wrong with any of the lines
 abbrev pub AreRight : List (List ℕ × ℕ × ℕ) → List EndLine → Type 0
@@ -71,10 +73,10 @@ pub record LacksHost (raw : RawLists) (fault : Fault) : Type 0 where
 
 -- The first fault: a name that is repeated; else the first line that wires ends with something
 -- wrong; else that the host has no end.
-pub data IsFirstFault (raw : RawLists) (fault : Fault) : Type 0 where
-  repeated : IsFirstRepeated raw.names fault → IsFirstFault raw fault
-  wrong : AreDistinct raw.names (length raw.names) → IsFirstWrong raw.names (end_lines raw) fault → IsFirstFault raw fault
-  hostless : AreDistinct raw.names (length raw.names) → AreRight raw.names (end_lines raw) → LacksHost raw fault → IsFirstFault raw fault
+pub data IsNetworkFault (raw : RawLists) (fault : Fault) : Type 0 where
+  repeated : IsFirstRepeated raw.names fault → IsNetworkFault raw fault
+  wrong : AreDistinct raw.names (length raw.names) → IsFirstWrong raw.names (end_lines raw) fault → IsNetworkFault raw fault
+  hostless : AreDistinct raw.names (length raw.names) → AreRight raw.names (end_lines raw) → LacksHost raw fault → IsNetworkFault raw fault
 
 -- no fault stands
 pub record IsFaultless (raw : RawLists) : Type 0 where

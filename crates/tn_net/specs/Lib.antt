@@ -2,8 +2,7 @@ pub mod RawNetworks
 pub mod Lines
 pub mod Faults
 pub mod Networks
-pub mod Tables
 pub mod Paths
-pub mod Visits
 pub mod Trees
-pub mod Loads
+pub mod WholeTrees
+pub mod Inner

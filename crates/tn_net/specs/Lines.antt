@@ -1,5 +1,6 @@
 -- The lines that name processors, and those that wire ends.
-use Rattle.std.specs.Prelude.{◌≡◌, ℕ, ◌%◌, ◌<◌, ◌≤◌, ◌-◌, ◌^◌, ◌≢◌, ◌⊎◌, List, [], ◌∷◌, ◌++◌, map, length, slice_index_or, Option, Some, None}
+use Rattle.std.specs.Prelude.{◌≡◌, ℕ, ◌<◌, ◌≤◌, ◌-◌, ◌^◌, ◌≢◌, ◌⊎◌, List, [], ◌∷◌, ◌++◌, map, length, slice_index_or, Option, Some, None}
+use Rattle.tn_mem.specs.Sizes.{IsMemorySize}
 use Rattle.tn_net.specs.declared.lines.LinkEnd.{LinkEnd}
 use Rattle.tn_net.specs.declared.lines.EndLine.{EndLine}
 use Rattle.tn_net.specs.RawNetworks.{RawLists}
@@ -40,7 +41,8 @@ host_lines (Some host) = record { one = record { name = host.0; link = host.1 };
 
 -- the line of a wire
 abbrev pub wire_line : (List ℕ × ℕ × List ℕ × ℕ × ℕ) → EndLine
-wire_line wire = record { one = record { name = wire.0; link = wire.1 }; two = Some (record { name = wire.2; link = wire.3 }); line = wire.4 }
+wire_line wire =
+    record { one = record { name = wire.0; link = wire.1 }; two = Some (record { name = wire.2; link = wire.3 }); line = wire.4 }
 
 -- the lines that wire ends
 abbrev pub end_lines : RawLists → List EndLine
@@ -59,7 +61,7 @@ abbrev pub Wires : EndLine → LinkEnd → LinkEnd → Type 0
 Wires line a b = ((line.one ≡ a) × (line.two ≡ Some b)) ⊎ ((line.one ≡ b) × (line.two ≡ Some a))
 
 -- the end stands on a line with a lower number
-pub record StandsBefore (lines : List EndLine) (number : ℕ) (end : LinkEnd) : Type 0 where
+pub record IsTakenBefore (lines : List EndLine) (number : ℕ) (end : LinkEnd) : Type 0 where
   pub place : ℕ
   pub here : place < length lines
   pub before : (line_at lines place).line < number
@@ -74,16 +76,10 @@ pub record HasLinks (line : EndLine) : Type 0 where
 abbrev pub DifferInNumber : List EndLine → Type 0
 DifferInNumber lines = (j k : ℕ) → j < k → k < length lines → (line_at lines j).line ≢ (line_at lines k).line
 
--- the size of a memory
-pub record IsSize (size : ℕ) : Type 0 where
-  pub least : 4096 ≤ size
-  pub most : size ≤ 1048576
-  pub words : size % 4 ≡ 0
-
 -- what holds of each description that a configuration gives
 pub record IsAdmitted (raw : RawLists) : Type 0 where
   pub few : length raw.names ≤ 64
-  pub sizes : (p : ℕ) → p < length raw.names → IsSize (size_at raw.names p)
+  pub sizes : (p : ℕ) → p < length raw.names → IsMemorySize (size_at raw.names p)
   pub links : (k : ℕ) → k < length (end_lines raw) → HasLinks (line_at (end_lines raw) k)
   pub numbers : DifferInNumber (end_lines raw)
   pub lines : raw.lines < 2 ^ 32 - 1

@@ -1,10 +1,11 @@
 -- Networks: the memories of the processors, what is at the far end of each link, and the host's end.
 use Rattle.std.specs.Prelude.{◌≡◌, ℕ, ◌+◌, ◌*◌, ◌<◌, ◌≤◌, ◌≢◌, ◌↔◌, List, map, length, slice_index, slice_index_or, Some}
+use Rattle.tn_mem.specs.Sizes.{IsMemorySize}
 use Rattle.tn_net.specs.declared.lines.LinkEnd.{LinkEnd}
 use Rattle.tn_net.specs.declared.networks.Far.{Far}
 use Rattle.tn_net.specs.declared.networks.Far.TheVariants.{Nothing, Host, Link}
 use Rattle.tn_net.specs.RawNetworks.{RawLists}
-use Rattle.tn_net.specs.Lines.{name_at, end_lines, line_at, Wires, IsSize}
+use Rattle.tn_net.specs.Lines.{name_at, end_lines, line_at, Wires}
 
 -- the sizes of the memories by processor, the far ends of the links, four for each processor in
 -- order, and the processor and the link that the host is wired to
@@ -27,7 +28,7 @@ pub record IsEnd (n : NetworkState) (p l : ℕ) : Type 0 where
 -- paired with no other.
 pub record IsPairing (n : NetworkState) : Type 0 where
   pub few : length n.sizes ≤ 64
-  pub sizes : (p : ℕ) → p < length n.sizes → IsSize (slice_index n.sizes p)
+  pub sizes : (p : ℕ) → p < length n.sizes → IsMemorySize (slice_index n.sizes p)
   pub room : length n.fars ≡ 4 * length n.sizes
   pub root : IsEnd n n.root n.root_link
   pub ends : (p l q m : ℕ) → IsEnd n p l → far_at n p l ≡ Link q m → IsEnd n q m

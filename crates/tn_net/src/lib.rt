@@ -12,6 +12,3 @@ mod trees;
 pub use lines::RawNetwork;
 pub use networks::{Far, Network};
 pub use trees::{Tree, TreeFault, TreeNode, load_tree};
-
-#[cfg(test)]
-mod tests;

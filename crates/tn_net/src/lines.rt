@@ -43,7 +43,7 @@ pub enum Refusal {
 }
 
 impl Refusal {
-    ghost use Rattle.tn_net.specs.Tables.{cause_of};
+    ghost use Rattle.tn_net.specs.Inner.Tables.{cause_of};
 
     /// The cause of a fault.
     pub fn cause(self) -> Cause

@@ -18,7 +18,8 @@ pub fn named(names: &[(Name, u32, u32)], name: &Name) -> Option<usize>
 
 /// The first processor whose name an earlier one has.
 pub fn first_repeated(names: &[(Name, u32, u32)]) -> Option<usize>
-    ensures { MatchOption result (AreDistinct names.now (length names.now)) (λ i. (i < length names.now) × AreDistinct names.now i × IsRepeated names.now i) }
+    ensures { MatchOption result (AreDistinct names.now (length names.now))
+        (λ i. (i < length names.now) × AreDistinct names.now i × IsRepeated names.now i) }
 {
     for (i, processor) in names.iter().enumerate() {
         if named(&names[..i], &processor.0).is_some() {
@@ -31,7 +32,8 @@ pub fn first_repeated(names: &[(Name, u32, u32)]) -> Option<usize>
 /// The processor of an end.
 pub fn processor(names: &[(Name, u32, u32)], end: &LinkEnd) -> Result<u32, Refusal>
     requires { length names.now ≤ 64 }
-    ensures { MatchResult result (λ p. IsNamed names.now end.now.name p) (λ refusal. (IsKnown names.now end.now.name → ⊥) × (refusal ≡ Refusal.Unknown end.now)) }
+    ensures { MatchResult result (λ p. IsNamed names.now end.now.name p)
+        (λ refusal. (IsKnown names.now end.now.name → ⊥) × (refusal ≡ Refusal.Unknown end.now)) }
 {
     match named(names, &end.name) {
         Some(p) => Ok(p as u32),

@@ -2,8 +2,9 @@ ghost use Rattle.std.specs.Prelude.{◌≡◌, ℕ, ◌+◌, ◌*◌, ◌<◌, l
 ghost use Rattle.tn_text.specs.declared.faults.ReadFault.TheVariants as read;
 ghost use Rattle.tn_text.specs.Reading.{Gives};
 ghost use Rattle.tn_net.specs.RawNetworks.{raw_of};
-ghost use Rattle.tn_net.specs.Lines.{IsSize, IsAdmitted};
-ghost use Rattle.tn_net.specs.Faults.{IsFaultless, IsFirstFault};
+ghost use Rattle.tn_mem.specs.Sizes.{IsMemorySize};
+ghost use Rattle.tn_net.specs.Lines.{IsAdmitted};
+ghost use Rattle.tn_net.specs.Faults.{IsFaultless, IsNetworkFault};
 
 use crate::lines::{RawNetwork, end_lines};
 use crate::names::{first_repeated, named};
@@ -54,8 +55,8 @@ impl Network {
         ensures network { IfOk result (λ n. IsNetwork (raw_of raw.now) n) }
         ensures faultless { IfOk result (λ n. IsFaultless (raw_of raw.now)) }
         ensures pairing { IfOk result (λ n. IsPairing n) }
-        ensures fault { (fault : _) → result ≡ Err (read.Fault fault) → IsFirstFault (raw_of raw.now) fault }
-        ensures only { (fault : _) → IsFirstFault (raw_of raw.now) fault → Gives (λ n. n) result (Err fault) }
+        ensures fault { (fault : _) → result ≡ Err (read.Fault fault) → IsNetworkFault (raw_of raw.now) fault }
+        ensures only { (fault : _) → IsNetworkFault (raw_of raw.now) fault → Gives (λ n. n) result (Err fault) }
     {
         if let Some(place) = first_repeated(&raw.names) {
             let (name, _, line) = raw.names[place];
@@ -82,7 +83,8 @@ impl Network {
 
     /// The number of processors.
     pub fn count(&self) -> u32
-        ensures { result ≡ length self.now.sizes }
+        ensures value { result ≡ length self.now.sizes }
+        ensures pairing { IsPairing self.now }
     {
         self.sizes.len() as u32
     }
@@ -91,7 +93,7 @@ impl Network {
     pub fn size(&self, p: u32) -> u32
         requires { p < length self.now.sizes }
         ensures value { result ≡ slice_index self.now.sizes p }
-        ensures size { IsSize result }
+        ensures size { IsMemorySize result }
     {
         self.sizes[p as usize]
     }
@@ -99,7 +101,8 @@ impl Network {
     /// What is at the far end of link `l` of processor `p`.
     pub fn far(&self, p: u32, l: u8) -> Far
         requires { IsEnd self.now p l }
-        ensures { result ≡ far_at self.now p l }
+        ensures value { result ≡ far_at self.now p l }
+        ensures pairing { IsPairing self.now }
     {
         self.fars[4 * p as usize + usize::from(l)]
     }

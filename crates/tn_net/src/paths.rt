@@ -1,8 +1,8 @@
 ghost use Rattle.std.specs.Prelude.{◌≡◌, ◌+◌, ◌<◌, ◌≤◌, length, nat_eq, IfOk, OnOk};
 ghost use Rattle.std.specs.List.{list_any};
 ghost use Rattle.tn_net.specs.Networks.{IsPairing};
-ghost use Rattle.tn_net.specs.Paths.{AreReached};
-ghost use Rattle.tn_net.specs.Visits.{IsVisited};
+ghost use Rattle.tn_net.specs.Inner.Walks.{AreReached};
+ghost use Rattle.tn_net.specs.Inner.Visits.{IsVisited};
 
 use crate::networks::{Far, Network};
 use std::alloc::{AllocError, Global};

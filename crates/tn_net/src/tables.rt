@@ -2,7 +2,7 @@ ghost use Rattle.std.specs.Prelude.{◌≡◌, ℕ, ◌+◌, ◌*◌, ◌≤◌,
 ghost use Rattle.tn_text.specs.declared.faults.ReadFault.TheVariants as read;
 ghost use Rattle.tn_net.specs.Lines.{AreDistinct, HasLinks, line_at, DifferInNumber};
 ghost use Rattle.tn_net.specs.Faults.{IsFirstWrong};
-ghost use Rattle.tn_net.specs.Tables.{entry, IsNext, AllBefore, Joins, Refuses, IsWired};
+ghost use Rattle.tn_net.specs.Inner.Tables.{entry, IsNext, AllBefore, Joins, Refuses, IsWired};
 
 use crate::lines::{EndLine, LinkEnd, Refusal};
 use crate::names::processor;
@@ -59,7 +59,8 @@ fn join(names: &[(Name, u32, u32)], line: &EndLine, fars: &mut [Far]) -> Result<
     requires few { length names.now ≤ 64 }
     requires links { HasLinks line.now }
     requires room { length fars.old ≡ 4 * length names.now }
-    ensures { MatchResult result (λ _. Joins names.now line.now fars.old fars.new) (λ refusal. Refuses names.now line.now fars.old refusal) }
+    ensures { MatchResult result (λ _. Joins names.now line.now fars.old fars.new)
+        (λ refusal. Refuses names.now line.now fars.old refusal) }
 {
     let p = processor(names, &line.one)?;
     let Some(two) = line.two else {
@@ -73,7 +74,9 @@ fn join(names: &[(Name, u32, u32)], line: &EndLine, fars: &mut [Far]) -> Result<
 /// Puts what is at the far end of an end into the table, where nothing is there yet.
 fn put(fars: &mut [Far], p: u32, end: &LinkEnd, far: Far) -> Result<(), Refusal>
     requires { 4 * p + end.now.link < length fars.old }
-    ensures { MatchResult result (λ _. (entry fars.old p end.now.link ≡ Far.Nothing) × (fars.new ≡ slice_set fars.old (4 * p + end.now.link) far)) (λ refusal. (entry fars.old p end.now.link ≢ Far.Nothing) × (refusal ≡ Refusal.Taken end.now)) }
+    ensures { MatchResult result (λ _. (entry fars.old p end.now.link ≡ Far.Nothing)
+        × (fars.new ≡ slice_set fars.old (4 * p + end.now.link) far))
+        (λ refusal. (entry fars.old p end.now.link ≢ Far.Nothing) × (refusal ≡ Refusal.Taken end.now)) }
 {
     let at = 4 * p as usize + usize::from(end.link);
     if fars[at] != Far::Nothing {

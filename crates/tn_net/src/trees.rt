@@ -1,9 +1,11 @@
 ghost use Rattle.std.specs.Prelude.{◌≡◌, ℕ, ◌+◌, ◌<◌, ◌≤◌, List, length, IfOk, MatchBool, MatchOption, Err};
 ghost use Rattle.tn_net.specs.declared.trees.TreeFault.TheVariants as tree;
 ghost use Rattle.tn_net.specs.Networks.{NetworkState};
-ghost use Rattle.tn_net.specs.Paths.{AreReached, step_at};
+ghost use Rattle.tn_net.specs.Inner.Walks.{AreReached, step_at};
+ghost use Rattle.tn_net.specs.WholeTrees.{IsWholeTree};
 ghost use Rattle.tn_net.specs.Trees.{IsLoadTree, IsFirstUnreachable, children_below, is_parent};
-ghost use Rattle.tn_net.specs.Loads.{IsThere, AreThere, ArePaths, IsWhole, IsLoaded, IsFamily, EndsAt, IsParentAt, AreParents, IsNodeOf, AreNodes, place_at, parent_at};
+ghost use Rattle.tn_net.specs.Inner.Loads.{IsThere, AreThere, ArePaths, HasEachPlace, IsInLoadOrder, IsFamily, EndsAt, IsParentAt};
+ghost use Rattle.tn_net.specs.Inner.Loads.{AreParents, IsNodeOf, AreNodes, place_at, parent_at};
 
 use crate::networks::Network;
 use crate::paths::{Reached, is_reached, walk};
@@ -23,11 +25,17 @@ pub struct TreeNode {
 }
 
 impl Model for TreeNode {
-    ghost use Rattle.tn_net.specs.Trees.{NodeState};
+    ghost use Rattle.tn_net.specs.Trees.{LoadNode};
 
-    ghost Value = { NodeState };
+    ghost Value = { LoadNode };
 
-    ghost view = { λ n. record { processor = n.processor; parent = n.parent; parent_link = n.parent_link; boot_link = n.boot_link; children = n.children.items } };
+    ghost view = { λ n. record {
+      processor = n.processor;
+      parent = n.parent;
+      parent_link = n.parent_link;
+      boot_link = n.boot_link;
+      children = n.children.items;
+    } };
 }
 
 /// The processors in load order: a parent comes before each child's subtree.
@@ -54,9 +62,11 @@ impl From<AllocError> for TreeFault {
     }
 }
 
-/// The load tree, or the first processor that no path leads to.
+/// The load tree, whose nodes are those of all processors, or the first processor that no path
+/// leads to.
 pub fn load_tree(alloc: Global, network: &Network) -> Result<Tree, TreeFault>
     ensures tree { IfOk result (λ tree. IsLoadTree network.now tree.nodes.items) }
+    ensures whole { IfOk result (λ tree. IsWholeTree tree.nodes.items (length network.now.sizes)) }
     ensures reachable { IfOk result (λ tree. (p : _) → IsFirstUnreachable network.now p → ⊥) }
     ensures unreachable { (p : _) → result ≡ Err (tree.Unreachable p) → IsFirstUnreachable network.now p }
 {
@@ -71,7 +81,8 @@ pub fn load_tree(alloc: Global, network: &Network) -> Result<Tree, TreeFault>
 
 /// The first processor that no step is to.
 fn first_missing(order: &[Reached], count: u32) -> Option<u32>
-    ensures { MatchOption result ((q : ℕ) → q < count → IsThere order.now q) (λ p. (p < count) × (IsThere order.now p → ⊥) × ((q : ℕ) → q < p → IsThere order.now q)) }
+    ensures { MatchOption result ((q : ℕ) → q < count → IsThere order.now q)
+        (λ p. (p < count) × (IsThere order.now p → ⊥) × ((q : ℕ) → q < p → IsThere order.now q)) }
 {
     for p in 0..count {
         if !is_reached(order, p) {
@@ -85,7 +96,8 @@ fn first_missing(order: &[Reached], count: u32) -> Option<u32>
 fn tree_nodes(alloc: Global, order: &[Reached]) -> Result<Vec<TreeNode>, AllocError>
     requires few { length order.now ≤ 64 }
     requires paths { (paths : List (List ℕ)) × ArePaths order.now paths }
-    ensures { IfOk result (λ nodes. (n : NetworkState) → AreReached n order.now → AreThere n order.now → IsLoadTree n nodes.items) }
+    ensures tree { IfOk result (λ nodes. (n : NetworkState) → AreReached n order.now → AreThere n order.now → IsLoadTree n nodes.items) }
+    ensures few { IfOk result (λ nodes. length nodes.items ≤ 64) }
 {
     let load = load_order(alloc, order)?;
     let parents = parents(alloc, order, &load)?;
@@ -95,7 +107,7 @@ fn tree_nodes(alloc: Global, order: &[Reached]) -> Result<Vec<TreeNode>, AllocEr
 /// The places of the steps in load order.
 fn load_order(alloc: Global, order: &[Reached]) -> Result<Vec<usize>, AllocError>
     requires { (paths : List (List ℕ)) × ArePaths order.now paths }
-    ensures { IfOk result (λ load. IsLoaded order.now load.items (length order.now)) }
+    ensures { IfOk result (λ load. IsInLoadOrder order.now load.items (length order.now)) }
 {
     let mut load = Vec::new(alloc);
     load.push(0)?;
@@ -132,7 +144,7 @@ fn is_family(order: &[Reached], parent: usize, place: usize) -> bool
 fn parents(alloc: Global, order: &[Reached], load: &[usize]) -> Result<Vec<Option<u32>>, AllocError>
     requires few { length load.now ≤ 64 }
     requires paths { (paths : List (List ℕ)) × ArePaths order.now paths }
-    requires whole { IsWhole load.now (length order.now) }
+    requires whole { HasEachPlace load.now (length order.now) }
     ensures { IfOk result (λ parents. AreParents order.now load.now parents.items (length load.now)) }
 {
     let mut parents = Vec::new(alloc);
@@ -147,7 +159,7 @@ fn parent_of(order: &[Reached], load: &[usize], place: usize) -> Option<u32>
     requires few { length load.now ≤ 64 }
     requires here { place < length order.now }
     requires paths { (paths : List (List ℕ)) × ArePaths order.now paths }
-    requires whole { IsWhole load.now (length order.now) }
+    requires whole { HasEachPlace load.now (length order.now) }
     ensures { IsParentAt order.now load.now place result }
 {
     if place == 0 {

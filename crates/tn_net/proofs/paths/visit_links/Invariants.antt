@@ -1,5 +1,5 @@
 use Rattle.std.proofs.Common.{◌<◌, length}
-use Rattle.tn_net.specs.Visits.{IsVisited}
+use Rattle.tn_net.specs.Inner.Visits.{IsVisited}
 use Rattle.tn_net.proofs.paths.visit_links.Given as goal
 
 -- the links so far were followed

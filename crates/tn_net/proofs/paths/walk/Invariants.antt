@@ -1,5 +1,5 @@
 use Rattle.std.proofs.Common.{◌-◌, length}
-use Rattle.tn_net.specs.Visits.{IsVisited}
+use Rattle.tn_net.specs.Inner.Visits.{IsVisited}
 use Rattle.tn_net.proofs.paths.walk.Given as goal
 
 -- all links of the processors so far were followed

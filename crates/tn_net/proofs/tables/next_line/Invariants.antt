@@ -1,5 +1,5 @@
 use Rattle.std.specs.Prelude.{MatchOption}
-use Rattle.tn_net.specs.Tables.{AllBefore, IsNext}
+use Rattle.tn_net.specs.Inner.Tables.{AllBefore, IsNext}
 use Rattle.tn_net.proofs.tables.next_line.Given as goal
 
 -- the line that would be next, if there were no more lines

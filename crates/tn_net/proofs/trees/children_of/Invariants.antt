@@ -1,6 +1,6 @@
 use Rattle.std.proofs.Common.{◌≡◌}
 use Rattle.tn_net.specs.Trees.{children_below}
-use Rattle.tn_net.specs.Loads.{parent_at}
+use Rattle.tn_net.specs.Inner.Loads.{parent_at}
 use Rattle.tn_net.proofs.trees.children_of.Given as goal
 
 -- the children so far

@@ -1,4 +1,4 @@
-use Rattle.tn_net.specs.Loads.{EndsAt}
+use Rattle.tn_net.specs.Inner.Loads.{EndsAt}
 use Rattle.tn_net.proofs.trees.family_end.Given as goal
 
 -- the end among the places so far

@@ -6,4 +6,5 @@ pub loop-p-preserved : goal.loop-p-preserved
 loop-p-preserved c = there_more c.args.order.now c.loop-p.p c.loop-p.invariant (sym c.is_reached.ensures ∙ c.if-not-is_reached.false)
 
 pub returns-then-not-is_reached : goal.returns-then-not-is_reached
-returns-then-not-is_reached c = (c.loop-p-test.true, not_there c.loop-p.p c.args.order.now (sym c.is_reached.ensures ∙ c.if-not-is_reached.true), c.loop-p.invariant)
+returns-then-not-is_reached c =
+    (c.loop-p-test.true, not_there c.loop-p.p c.args.order.now (sym c.is_reached.ensures ∙ c.if-not-is_reached.true), c.loop-p.invariant)

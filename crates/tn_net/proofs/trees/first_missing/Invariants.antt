@@ -1,5 +1,5 @@
 use Rattle.std.proofs.Common.{◌<◌, ℕ}
-use Rattle.tn_net.specs.Loads.{IsThere}
+use Rattle.tn_net.specs.Inner.Loads.{IsThere}
 use Rattle.tn_net.proofs.trees.first_missing.Given as goal
 
 -- a step is to each processor so far

@@ -1,4 +1,4 @@
-use Rattle.tn_net.specs.Loads.{AreNodes}
+use Rattle.tn_net.specs.Inner.Loads.{AreNodes}
 use Rattle.tn_net.proofs.trees.nodes.Given as goal
 
 -- the nodes so far

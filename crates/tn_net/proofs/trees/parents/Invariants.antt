@@ -1,4 +1,4 @@
-use Rattle.tn_net.specs.Loads.{AreParents}
+use Rattle.tn_net.specs.Inner.Loads.{AreParents}
 use Rattle.tn_net.proofs.trees.parents.Given as goal
 
 -- the parents so far

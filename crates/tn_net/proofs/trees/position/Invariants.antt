@@ -1,5 +1,5 @@
 use Rattle.std.proofs.Common.{◌≡◌, ◌<◌, ℕ}
-use Rattle.tn_net.specs.Loads.{place_at}
+use Rattle.tn_net.specs.Inner.Loads.{place_at}
 use Rattle.tn_net.proofs.trees.position.Given as goal
 
 -- the place does not stand so far

@@ -7,7 +7,7 @@ use Rattle.tn_net.specs.declared.lines.Refusal.{Refusal}
 use Rattle.tn_net.specs.declared.lines.Refusal.TheVariants.{Unknown, Taken}
 use Rattle.tn_net.specs.declared.networks.Far.{Far}
 use Rattle.tn_net.specs.declared.networks.Far.TheVariants.{Nothing, Host, Link}
-use Rattle.tn_net.specs.Lines.{IsNamed, IsKnown, line_at, StandsBefore, Wires}
+use Rattle.tn_net.specs.Lines.{IsNamed, IsKnown, line_at, IsTakenBefore, Wires}
 use Rattle.tn_net.specs.Faults.{unknown, twice, AreRight}
 use Rattle.tn_net.specs.Networks.{end_of}
 
@@ -32,7 +32,7 @@ pub record WiredBefore (lines : List EndLine) (number : ℕ) (end far : LinkEnd)
 
 -- what the lines before the number say of an end
 abbrev pub Shows : List (List ℕ × ℕ × ℕ) → List EndLine → ℕ → LinkEnd → Far → Type 0
-Shows names lines number end Nothing = StandsBefore lines number end → ⊥
+Shows names lines number end Nothing = IsTakenBefore lines number end → ⊥
 Shows names lines number end Host = HostBefore lines number end
 Shows names lines number end (Link q m) = (q < length names) × (m < 4) × WiredBefore lines number end (end_of names q m)
 
@@ -54,15 +54,23 @@ AllBefore lines number n = (k : ℕ) → k < n → (line_at lines k).line < numb
 
 -- a line of one end, and of two, puts its ends into the table
 pub data Joins (names : List (List ℕ × ℕ × ℕ)) (line : EndLine) (old new : List Far) : Type 0 where
-  joins_host : (p : ℕ) → line.two ≡ None → IsNamed names line.one.name p → entry old p line.one.link ≡ Nothing → new ≡ slice_set old (4 * p + line.one.link) Host → Joins names line old new
-  joins_ends : (p q : ℕ) (end : LinkEnd) → line.two ≡ Some end → IsNamed names line.one.name p → IsNamed names end.name q → entry old p line.one.link ≡ Nothing → entry (slice_set old (4 * p + line.one.link) (Link q end.link)) q end.link ≡ Nothing → new ≡ slice_set (slice_set old (4 * p + line.one.link) (Link q end.link)) (4 * q + end.link) (Link p line.one.link) → Joins names line old new
+  joins_host : (p : ℕ) → line.two ≡ None → IsNamed names line.one.name p → entry old p line.one.link ≡ Nothing
+      → new ≡ slice_set old (4 * p + line.one.link) Host → Joins names line old new
+  joins_ends : (p q : ℕ) (end : LinkEnd) → line.two ≡ Some end → IsNamed names line.one.name p → IsNamed names end.name q
+      → entry old p line.one.link ≡ Nothing → entry (slice_set old (4 * p + line.one.link) (Link q end.link)) q end.link ≡ Nothing
+      → new ≡ slice_set (slice_set old (4 * p + line.one.link) (Link q end.link)) (4 * q + end.link) (Link p line.one.link)
+      → Joins names line old new
 
 -- why a line can't put its ends into the table
 pub data Refuses (names : List (List ℕ × ℕ × ℕ)) (line : EndLine) (old : List Far) (refusal : Refusal) : Type 0 where
   refuses_one : (IsKnown names line.one.name → ⊥) → refusal ≡ Unknown line.one → Refuses names line old refusal
-  refuses_two : (end : LinkEnd) → line.two ≡ Some end → IsKnown names line.one.name → (IsKnown names end.name → ⊥) → refusal ≡ Unknown end → Refuses names line old refusal
-  taken_one : (p : ℕ) → IsNamed names line.one.name p → ((end : LinkEnd) → line.two ≡ Some end → IsKnown names end.name) → entry old p line.one.link ≢ Nothing → refusal ≡ Taken line.one → Refuses names line old refusal
-  taken_two : (p q : ℕ) (end : LinkEnd) → line.two ≡ Some end → IsNamed names line.one.name p → IsNamed names end.name q → entry old p line.one.link ≡ Nothing → entry (slice_set old (4 * p + line.one.link) (Link q end.link)) q end.link ≢ Nothing → refusal ≡ Taken end → Refuses names line old refusal
+  refuses_two : (end : LinkEnd) → line.two ≡ Some end → IsKnown names line.one.name → (IsKnown names end.name → ⊥) → refusal ≡ Unknown end
+      → Refuses names line old refusal
+  taken_one : (p : ℕ) → IsNamed names line.one.name p → ((end : LinkEnd) → line.two ≡ Some end → IsKnown names end.name)
+      → entry old p line.one.link ≢ Nothing → refusal ≡ Taken line.one → Refuses names line old refusal
+  taken_two : (p q : ℕ) (end : LinkEnd) → line.two ≡ Some end → IsNamed names line.one.name p → IsNamed names end.name q
+      → entry old p line.one.link ≡ Nothing → entry (slice_set old (4 * p + line.one.link) (Link q end.link)) q end.link ≢ Nothing
+      → refusal ≡ Taken end → Refuses names line old refusal
 
 -- the cause of a fault
 abbrev pub cause_of : Refusal → Cause

@@ -4,7 +4,8 @@ use Rattle.std.specs.List.{IsDistinct}
 use Rattle.tn_net.specs.declared.networks.Far.TheVariants.{Link}
 use Rattle.tn_net.specs.declared.paths.Reached.{Reached}
 use Rattle.tn_net.specs.Networks.{NetworkState, far_at}
-use Rattle.tn_net.specs.Paths.{Leads, step_at, path_at, Extends}
+use Rattle.tn_net.specs.Paths.{Leads, path_at}
+use Rattle.tn_net.specs.Inner.Walks.{step_at, Extends}
 
 -- The rank of a list of links below 4 behind a list of this rank: shorter lists have lower ranks, and
 -- among lists of one length those that come before.
@@ -32,9 +33,11 @@ pub record IsVisited (n : NetworkState) (order : List Reached) (i l : ℕ) : Typ
   pub leads : (k : ℕ) → k < length order → Leads n n.root (path_at paths k) (step_at order k).processor
   pub rising : (j k : ℕ) → j < k → k < length order → rank_at paths j < rank_at paths k
   pub below : i < length order → (k : ℕ) → k < length order → rank_at paths k < 4 * rank_at paths i + l
-  pub done : (j m q b : ℕ) → j < length order → m < 4 → (j < i) ⊎ ((j ≡ i) × (m < l)) → far_at n (step_at order j).processor m ≡ Link q b → IsFound order paths (4 * rank_at paths j + m) q
+  pub done : (j m q b : ℕ) → j < length order → m < 4 → (j < i) ⊎ ((j ≡ i) × (m < l)) → far_at n (step_at order j).processor m ≡ Link q b
+      → IsFound order paths (4 * rank_at paths j + m) q
   pub root : 0 < length order
   pub begins : path_at paths 0 ≡ []
   pub first : (step_at order 0).processor ≡ n.root
   pub boot : (step_at order 0).boot_link ≡ n.root_link
+  pub no_link : (step_at order 0).parent_link ≡ 0
   pub extends : (k : ℕ) → 0 < k → k < length order → Extends n order paths k (step_at order k)
