@@ -76,7 +76,7 @@ fn alone(word: &[u8]) -> Result<Instruction, Cause>
 }
 
 /// The instruction of a line of a word and a token.
-#[tactic(auto, using(tn_prefix::proofs::Instructions::coded_functions))]
+#[tactic(auto, using(tn_isa::proofs::CodedFunctions::coded_functions))]
 fn with_token(word: &[u8], token: &[u8]) -> Result<Instruction, Cause>
     ensures { result_map_both instruction_of (λ cause. cause) result ≡ with_token token.now (mnemonic_named word.now) }
 {

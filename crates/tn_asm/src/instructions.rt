@@ -1,4 +1,4 @@
-ghost use Rattle.tn_prefix.specs.Coding.{IsCoded};
+ghost use Rattle.tn_isa.specs.OperandRegister.{IsCoded};
 
 use tn_isa::Fun;
 

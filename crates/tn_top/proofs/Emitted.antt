@@ -6,7 +6,8 @@ use Rattle.tn_io.specs.FileOuts.{OverFile, printed_to, bytes_open, IsThere, IsLa
 use Rattle.tn_io.specs.Outs.{told_then}
 use Rattle.tn_io.specs.Stores.{told, told_with}
 use Rattle.tn_io.proofs.FileListLaws.{held-with_file}
-use Rattle.tn_top.specs.Outcomes.{Told, Holds, HoldsPart, Grows, GrowsPart}
+use Rattle.tn_top.specs.Outcomes.{Told, Holds, HoldsPart}
+use Rattle.tn_top.specs.Inner.Ends.{Grows, GrowsPart}
 use Rattle.tn_top.proofs.Puts.{told-weaker}
 
 same_some : {A : Type 0} {x y : A} → Some x ≡ Some y → x ≡ y

@@ -11,8 +11,12 @@ use Rattle.tn_top.specs.declared.refusals.Refusal.TheVariants as refusal
 use Rattle.tn_top.specs.declared.statuses.Status.{Status}
 use Rattle.tn_top.specs.declared.statuses.Status.TheVariants as status
 use Rattle.tn_top.specs.Plans.{Answer, usage, unread, fault, limit, refused, done, Plan, gives, stops, reads, then_plan, found, either_answer, answer_of, Goes}
-use Rattle.tn_top.specs.Stages.{Unable, Staged}
-use Rattle.tn_top.specs.Outcomes.{Told, SameFiles, Holds, HoldsPart, without, Begins, printed_by, Prints, Ends, wrote_all, showed_all, unable, wrote_part, wrote_for_want, showed_part, showed_for_want, not_enabled, end_status, status_of, IsDone, IsPrinted, refused_line, end_line, IsLine, AllGiven, WritesTo, CannotRead, HasCause, NothingFailed, FilesAfter, PrintedAfter, WhyUnwritten, Puts, WhyUnprinted, Shows}
+use Rattle.tn_top.specs.Inner.Stages.{Unable, Staged}
+use Rattle.tn_top.specs.Outcomes.{Told, SameFiles, Holds, HoldsPart, without, Begins, printed_by, status_of, IsDone, IsPrinted, AllGiven, WritesTo, CannotRead, HasCause}
+use Rattle.tn_top.specs.Outcomes.{NothingFailed, FilesAfter, PrintedAfter}
+use Rattle.tn_top.specs.Refusals.{end_status, refused_line, end_line}
+use Rattle.tn_top.specs.ErrLines.{IsLine, IsAnswer}
+use Rattle.tn_top.specs.Inner.Ends.{Prints, Ends, wrote_all, showed_all, unable, wrote_part, wrote_for_want, showed_part, showed_for_want, not_enabled, WhyUnwritten, Puts, WhyUnprinted, Shows}
 use Rattle.tn_top.proofs.Puts.{told-weaker, part-same}
 use Rattle.tn_top.proofs.PlanLaws.{goes-then, given-goes, found-goes, without-goes, missing-goes}
 use Rattle.tn_top.proofs.StageLaws.{unable-then}
@@ -103,7 +107,7 @@ module _ (plan : Plan Answer) (before after : Stored) (old new : Printed) where
   cannot_read file next g (inl rose) = inr (rose, without_it before.files plan file next g)
   cannot_read file next g (inr e) = inl (missing_it before.files plan file next e g)
 
-  unable_cause : (T : Type 0) (why : Refusal) → Unable plan before after why → HasCause (answer_of plan) before after old new (end_status {T = T} (Err why))
+  unable_cause : (T : Type 0) (why : Refusal) → Unable plan before after why → HasCause (Some plan) before after old new (end_status {T = T} (Err why))
   unfolding Unable
   unable_cause T (refusal.Fault file first) u = more before.files (λ fs e. (file, first, e)) (at_stop before.files plan (fault file first) u)
   unable_cause T (refusal.Limit word count) u = more before.files (λ fs e. (word, count, e)) (at_stop before.files plan (limit word count) u)
@@ -114,7 +118,7 @@ module _ (plan : Plan Answer) (before after : Stored) (old new : Printed) where
   unable_cause T refusal.NoMemory u = tt
 
   -- each status has its cause
-  pub ends_cause : {T : Type 0} (r : Result T Refusal) → Ends plan before after old new r → HasCause (answer_of plan) before after old new (end_status r)
+  pub ends_cause : {T : Type 0} (r : Result T Refusal) → Ends plan before after old new r → HasCause (Some plan) before after old new (end_status r)
   ends_cause r (wrote_all x file bytes g t o p) = more before.files (λ fs e. subst IsDone (sym e) tt) (given before.files plan (done (Some (file, bytes)) []) g)
   ends_cause r (showed_all x text g f p) = more before.files (λ fs e. subst IsDone (sym e) tt) (given before.files plan (done None text) g)
   ends_cause {T} r (unable why u f p) = unable_cause T why u
@@ -246,27 +250,33 @@ module _ (plan : Plan Answer) (before after : Stored) (old new : Printed) where
   ends_print r (showed_for_want text answer is g f b) = part_printed status.NoMemory text answer is b (given before.files plan answer g)
   ends_print r (not_enabled file line tokens text g f p) = more before.files (λ fs e. p ∙ ap (λ a. told_then (printed_by a) old.bytes) (sym e)) (given before.files plan (refused file line tokens.items text) g)
 
-  unable_line : (T : Type 0) (why : Refusal) → Unable plan before after why → IsLine (answer_of plan) before after (end_status {T = T} (Err why)) (end_line {T = T} (Err why))
+  at_given : (a : Answer) → Goes before.files plan (gives a) → IsAnswer (Some plan) before.files a
+  at_given a g = record { told = given before.files plan a g; possible = inl g }
+
+  at_stopped : (a : Answer) → Goes before.files plan (stops a) → IsAnswer (Some plan) before.files a
+  at_stopped a g = record { told = at_stop before.files plan a g; possible = inr g }
+
+  unable_line : (T : Type 0) (why : Refusal) → Unable plan before after why → IsLine (Some plan) before after (end_status {T = T} (Err why)) (end_line {T = T} (Err why))
   unfolding Unable refused_line
-  unable_line T (refusal.Fault file first) u = (file, first, refl, at_stop before.files plan (fault file first) u)
-  unable_line T (refusal.Limit word count) u = (word, count, refl, at_stop before.files plan (limit word count) u)
-  unable_line T (refusal.Unread file) u = (file, refl, cannot_read file u.0 u.1 u.2)
+  unable_line T (refusal.Fault file first) u = (file, first, refl, at_stopped (fault file first) u)
+  unable_line T (refusal.Limit which count) u = (which, count, refl, at_stopped (limit which count) u)
+  unable_line T (refusal.Unread file) u = (file, refl, cannot_read file u.0 u.1 u.2, (u.0, u.1))
   unable_line T (refusal.Unwritten file) u = absurd u
   unable_line T refusal.Unprinted u = absurd u
   unable_line T (refusal.NotEnabled file line tokens) u = absurd u
   unable_line T refusal.NoMemory u = refl
 
   -- what is told
-  pub ends_line : {T : Type 0} (r : Result T Refusal) → Ends plan before after old new r → IsLine (answer_of plan) before after (end_status r) (end_line r)
+  pub ends_line : {T : Type 0} (r : Result T Refusal) → Ends plan before after old new r → IsLine (Some plan) before after (end_status r) (end_line r)
   unfolding refused_line
   ends_line r (wrote_all x file bytes g t o p) = refl
   ends_line r (showed_all x text g f p) = refl
   ends_line {T} r (unable why u f p) = unable_line T why u
-  ends_line r (wrote_part file bytes g t rose p) = (file, refl, more before.files (λ fs e. (bytes, e)) (given before.files plan (done (Some (file, bytes)) []) g))
+  ends_line r (wrote_part file bytes g t rose p) = (file, bytes, refl, at_given (done (Some (file, bytes)) []) g)
   ends_line r (wrote_for_want file bytes g t p) = refl
   ends_line r (showed_part text answer is g f rose b) = refl
   ends_line r (showed_for_want text answer is g f b) = refl
-  ends_line r (not_enabled file line tokens text g f p) = (file, line, tokens.items, refl, more before.files (λ fs e. (text, e)) (given before.files plan (refused file line tokens.items text) g))
+  ends_line r (not_enabled file line tokens text g f p) = (file, line, tokens.items, text, refl, at_given (refused file line tokens.items text) g)
 
   -- where every answer writes a file, no file is open after Done
   pub ends_closed : {T : Type 0} (target : List ℕ) (r : Result T Refusal) → AllGiven (WritesTo target) plan → Ends plan before after old new r → end_status r ≡ status.Done → after.opened ≡ None

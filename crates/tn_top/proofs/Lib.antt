@@ -1,5 +1,9 @@
 pub mod Puts
-pub mod ErrLines
-pub mod SourceSteps
-pub mod Causes
 pub mod Emitted
+pub mod PlanLaws
+pub mod StageLaws
+pub mod ReadLaws
+pub mod FlatCodes
+pub mod EndLaws
+pub mod RunLaws
+pub mod ErrLines

@@ -1,10 +1,11 @@
 -- Of plans.
-use Rattle.std.proofs.Common.{◌≡◌, ◌≢◌, ℕ, ◌<◌, ◌≤◌, Bool, true, false, not, cond, List, [], ◌∷◌, length, Option, Some, None, IfSome, IsSomeAnd, Result, Ok, Err, refl, sym, ap, ◌∙◌, subst}
+use Rattle.std.proofs.Common.{◌≡◌, ◌≢◌, ℕ, ◌+◌, ◌<◌, ◌≤◌, Bool, true, false, not, cond, List, [], ◌∷◌, length, Option, Some, None, IfSome, IsSomeAnd, Result, Ok, Err, refl, sym, ap, ◌∙◌, subst}
 use Rattle.std.proofs.lemmas.Bool.{lt-ltb, le-ltb, false≢true}
 use Rattle.std.proofs.lemmas.Slice.Eq.{bytes_eq-Decides}
 use Rattle.std.specs.Str.{bytes_eq}
 use Rattle.tn_io.specs.FileLists.{Files, held}
 use Rattle.tn_io.proofs.FileListLaws.{bytes_eq-other}
+use Rattle.tn_text.specs.declared.limits.TheConstants.{FILE_LIMIT}
 use Rattle.tn_text.specs.declared.limits.Limit.TheVariants.{File}
 use Rattle.tn_top.specs.Plans.{Answer, unread, limit, Plan, gives, stops, reads, then_plan, found_in, found, either_answer, answer_of, Goes, stays, reads_on, too_long}
 use Rattle.tn_top.specs.Outcomes.{without, AllGiven}
@@ -23,16 +24,16 @@ goes-then files k p q (reads_on {next} text held short rest) = reads_on text hel
 goes-then files k p q (too_long long) = too_long long
 
 -- a file that is too long
-pub found_in-too_long : {A : Type 0} (file : List ℕ) (next : List ℕ → Result A Answer) (bytes : Option (List ℕ)) → IsSomeAnd bytes (λ text. 1048576 < length text) → found_in file next bytes ≡ Err (limit File 1048577)
+pub found_in-too_long : {A : Type 0} (file : List ℕ) (next : List ℕ → Result A Answer) (bytes : Option (List ℕ)) → IsSomeAnd bytes (λ text. FILE_LIMIT < length text) → found_in file next bytes ≡ Err (limit File (FILE_LIMIT + 1))
 found_in-too_long file next None h = absurd h
-found_in-too_long file next (Some text) h = rw (lt-ltb 1048576 (length text) h) refl
+found_in-too_long file next (Some text) h = rw (lt-ltb FILE_LIMIT (length text) h) refl
 
 -- a plan gives what it gives from any place that it goes to
 pub found-goes : {A : Type 0} (fs : Files) (p q : Plan A) → Goes (Some fs) p q → found p fs ≡ found q fs
 unfolding found
 found-goes fs p q stays = refl
 found-goes fs p q (reads_on {file} {next} text is short rest) =
-    ap (found_in file (λ text. found (next text) fs)) is ∙ rw (le-ltb 1048576 (length text) short) (found-goes fs (next text) q rest)
+    ap (found_in file (λ text. found (next text) fs)) is ∙ rw (le-ltb FILE_LIMIT (length text) short) (found-goes fs (next text) q rest)
 found-goes fs p q (too_long {file} {next} long) = found_in-too_long file (λ text. found (next text) fs) (held fs file) long
 
 -- a name holds nothing once its files are left out
@@ -69,7 +70,7 @@ without-goes fs file next p q e (reads_on {file = first} {next = others} text is
         subst (λ f. found (reads f others) (without fs file) ≡ Err (unread file)) (sym is_file) (rw (held-without fs file) refl)
     at false differs h =
         let other : first ≢ file = λ s. false≢true (sym differs ∙ (bytes_eq-Decides first file).1 s) in
-        ap (found_in first (λ text. found (others text) (without fs file))) (held-without-other fs file first other ∙ is) ∙ rw (le-ltb 1048576 (length text) short) h
+        ap (found_in first (λ text. found (others text) (without fs file))) (held-without-other fs file first other ∙ is) ∙ rw (le-ltb FILE_LIMIT (length text) short) h
 without-goes fs file next p q e (too_long long) = absurd cc
 
 -- a plan that comes to read a missing file

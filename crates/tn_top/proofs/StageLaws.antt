@@ -6,7 +6,7 @@ use Rattle.tn_io.specs.Stores.{Stored, told}
 use Rattle.tn_top.specs.declared.refusals.Refusal.{Refusal}
 use Rattle.tn_top.specs.declared.refusals.Refusal.TheVariants.{Fault, Limit, Unread, Unwritten, Unprinted, NotEnabled, NoMemory}
 use Rattle.tn_top.specs.Plans.{Answer, fault, limit, Plan, gives, stops, reads, then_plan, at_once, each_from, each, Goes, stays}
-use Rattle.tn_top.specs.Stages.{Unable, Staged, Makes}
+use Rattle.tn_top.specs.Inner.Stages.{Unable, Staged, Makes}
 use Rattle.tn_top.proofs.PlanLaws.{goes-joined, goes-then}
 
 rose-later : (a b c : ℕ) → a ≤ b → Rose b c → Rose a c

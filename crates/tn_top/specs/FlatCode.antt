@@ -4,5 +4,5 @@ use Rattle.tn_isa.specs.declared.functions.Fun.{Fun}
 use Rattle.tn_prefix.specs.Coding.{coding}
 
 -- the codings of instructions, one after the other
-abbrev pub code_of : List (Fun × ℤ) → List ℕ
-code_of instructions = flat_map (λ i. coding i.0 i.1) instructions
+abbrev pub flat_code : List (Fun × ℤ) → List ℕ
+flat_code instructions = flat_map (λ i. coding i.0 i.1) instructions

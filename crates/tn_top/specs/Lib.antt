@@ -1,9 +1,10 @@
-pub mod Statuses
-pub mod Words
-pub mod FlatSource
+pub mod ExitCodes
+pub mod CommandWords
+pub mod FlatCode
 pub mod OneProcessor
-pub mod Answers
+pub mod Plans
+pub mod Commands
 pub mod Outcomes
-pub mod Sources
 pub mod Refusals
 pub mod ErrLines
+pub mod Inner

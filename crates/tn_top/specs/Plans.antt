@@ -1,11 +1,15 @@
 -- What a command reads, one file after the other, and what it makes of it.
-use Rattle.std.specs.Prelude.{◌≡◌, ℕ, ◌<◌, ◌≤◌, nat_lt, List, [], ◌∷◌, ◌++◌, length, Option, Some, None, IfSome, IsSomeAnd, Result, Ok, Err, if◌then◌else◌}
+use Rattle.std.specs.Prelude.{◌≡◌, ℕ, ◌+◌, ◌<◌, ◌≤◌, nat_lt, List, [], ◌∷◌, ◌++◌, length, Option, Some, None, IfSome, IsSomeAnd, Result, Ok, Err, if◌then◌else◌}
 use Rattle.tn_io.specs.FileLists.{Files, held}
 use Rattle.tn_text.specs.declared.faults.Fault.{Fault}
+use Rattle.tn_text.specs.declared.limits.TheConstants.{FILE_LIMIT}
 use Rattle.tn_text.specs.declared.limits.Limit.{Limit}
 use Rattle.tn_text.specs.declared.limits.Limit.TheVariants.{File}
 
--- what words and files are answered by, where nothing fails and memory suffices
+-- What is answered on words and files, where nothing fails and memory suffices. usage: the words spell no
+-- command; unread: this file isn't there; fault: this file has this fault, the first of all; limit: this
+-- limit is passed, by this count; refused: the step of this line of a file isn't enabled, and what the
+-- lines before it print is printed; done: with a file written, if the command writes one, and a text printed.
 pub data Answer : Type 0 where
   usage : Answer
   unread : (file : List ℕ) → Answer
@@ -42,7 +46,7 @@ each f bs = each_from f [] bs
 -- what a file that is read gives
 abbrev pub found_in : {A : Type 0} → List ℕ → (List ℕ → Result A Answer) → Option (List ℕ) → Result A Answer
 found_in file next None = Err (unread file)
-found_in file next (Some text) = if nat_lt 1048576 (length text) then Err (limit File 1048577) else next text
+found_in file next (Some text) = if nat_lt FILE_LIMIT (length text) then Err (limit File (FILE_LIMIT + 1)) else next text
 
 -- what a plan gives over files
 unfoldable pub found : {A : Type 0} → Plan A → Files → Result A Answer
@@ -62,5 +66,5 @@ answer_of plan files = either_answer (found plan files)
 -- may have, and is the file's where the files are told.
 pub data Goes {A : Type 0} (files : Option Files) : Plan A → Plan A → Type 0 where
   stays : {p : Plan A} → Goes files p p
-  reads_on : {file : List ℕ} {next : List ℕ → Plan A} {q : Plan A} (text : List ℕ) → IfSome files (λ fs. held fs file ≡ Some text) → length text ≤ 1048576 → Goes files (next text) q → Goes files (reads file next) q
-  too_long : {file : List ℕ} {next : List ℕ → Plan A} → IfSome files (λ fs. IsSomeAnd (held fs file) (λ text. 1048576 < length text)) → Goes files (reads file next) (stops (limit File 1048577))
+  reads_on : {file : List ℕ} {next : List ℕ → Plan A} {q : Plan A} (text : List ℕ) → IfSome files (λ fs. held fs file ≡ Some text) → length text ≤ FILE_LIMIT → Goes files (next text) q → Goes files (reads file next) q
+  too_long : {file : List ℕ} {next : List ℕ → Plan A} → IfSome files (λ fs. IsSomeAnd (held fs file) (λ text. FILE_LIMIT < length text)) → Goes files (reads file next) (stops (limit File (FILE_LIMIT + 1)))

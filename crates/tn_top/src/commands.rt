@@ -1,31 +1,26 @@
-ghost use Rattle.std.specs.Prelude.{◌≡◌, ◌<◌, ◌≤◌, ◌⊎◌, ℕ, List, map, length, vec_len, Some, None, IfOk, IfErr, string_bytes, IsTrue};
+ghost use Rattle.std.specs.Prelude.{◌≡◌, ◌<◌, ◌⊎◌, ℕ, List, map, string_bytes, None, IfSome};
 ghost use Rattle.tn_text.specs.Counts.{Rose};
+ghost use Rattle.tn_io.specs.Outs.{Printed};
 ghost use Rattle.tn_text.specs.declared.faults.Fault.{Fault};
-ghost use Rattle.tn_text.specs.FileNames.{is_file_name};
-ghost use Rattle.tn_top.specs.Words.{asked, seen, source_of, target_of, IsWithin};
-ghost use Rattle.tn_top.specs.Answers.{answer, status_of, coded, fault, limit, code};
-ghost use Rattle.tn_top.specs.Refusals.{end_status, end_line};
-ghost use Rattle.tn_top.specs.ErrLines.{Tells, IsLine};
-ghost use Rattle.tn_top.specs.Outcomes.{Told, IfTold, Cause, NothingFailed, FilesAfter};
+ghost use Rattle.tn_text.specs.declared.limits.Limit.{Limit};
+ghost use Rattle.tn_top.specs.CommandWords.{asked, HasLink};
 ghost use Rattle.tn_top.specs.OneProcessor.{boot_stream};
-ghost use Rattle.tn_top.specs.Sources.{IsCodeOf, IsRefusal, IsNoCode, SourceEnds, Ends};
+ghost use Rattle.tn_top.specs.Plans.{fault, limit, refused, then_plan};
+ghost use Rattle.tn_top.specs.Commands.{code_plan, written_from, plan_of, plan_asked, answer};
+ghost use Rattle.tn_top.specs.Outcomes.{Told, HasCause, NothingFailed, FilesAfter, PrintedAfter, Writes, status_of as answer_status};
+ghost use Rattle.tn_top.specs.ErrLines.{Tells, IsLine};
+ghost use Rattle.tn_top.specs.Inner.Ends.{Ends};
 
-use crate::err_lines::{tell, tell_usage};
-use crate::files::put_file;
-use crate::flat_source::code_of;
-use crate::one_processor::put_code_stream;
-use crate::refusals::Refusal;
+use crate::endings::write_file;
+use crate::err_lines::{tell_end, tell_usage};
+use crate::one_processor::write_code_stream;
+use crate::reading::read_code;
+use crate::refusals::{Refusal, status_of};
 use crate::statuses::Status;
 use crate::words::{Command, command_of};
 use std::alloc::Global;
-use tn_asm::read_flat;
-use tn_io::{GetFault, Out, Store};
-
-/// The most bytes that a file may have.
-const FILE_LIMIT: u64 = 1_048_576;
-
-/// The most bytes of code that a processor may have.
-const CODE_LIMIT: usize = 262_144;
+use tn_io::{Out, Store};
+use tn_text::FileName;
 
 /// Runs the command that the words after the program's name spell.
 pub fn run<S: Store, O: Out>(
@@ -36,131 +31,82 @@ pub fn run<S: Store, O: Out>(
     err: &mut O,
 ) -> Status
     // The status has its cause.
-    ensures cause { Cause (map string_bytes words.now) (S.stored store.old) (S.stored store.new) result }
+    ensures cause { HasCause (plan_asked (map string_bytes words.now)) (S.stored store.old) (S.stored store.new) (O.printed out.old) (O.printed out.new) result }
 
     // Where no call failed, the status is the answer's, unless memory ran out.
-    ensures status { NothingFailed (S.stored store.old) (S.stored store.new)
-        → IfTold (S.stored store.old).files (λ files. (result ≡ Status.NoMemory) ⊎ (result ≡ status_of (answer (map string_bytes words.now) files))) }
+    ensures status { NothingFailed (S.stored store.old) (S.stored store.new) (O.printed out.old) (O.printed out.new)
+        → IfSome (S.stored store.old).files (λ files. (result ≡ Status.NoMemory) ⊎ (result ≡ answer_status (answer (map string_bytes words.now) files))) }
 
-    // `Usage` comes exactly where the words spell no command; a fault and a limit come exactly where
-    // they are the answer and no read failed, unless memory ran out.
+    // `Usage` comes exactly where the words spell no command; a fault, a limit and a step that is not
+    // enabled come exactly where they are the answer and no read, and for the last no print, failed,
+    // unless memory ran out.
     ensures usage { asked (map string_bytes words.now) ≡ None → result ≡ Status.Usage }
     ensures fault { (Rose (S.stored store.old).read_faults (S.stored store.new).read_faults → ⊥)
-        → IfTold (S.stored store.old).files (λ files. (file : List ℕ) (first : Fault) → answer (map string_bytes words.now) files ≡ fault file first → (result ≡ Status.NoMemory) ⊎ (result ≡ Status.Fault)) }
+        → IfSome (S.stored store.old).files (λ files. (file : List ℕ) (first : Fault)
+          → answer (map string_bytes words.now) files ≡ fault file first → (result ≡ Status.NoMemory) ⊎ (result ≡ Status.Fault)) }
     ensures limit { (Rose (S.stored store.old).read_faults (S.stored store.new).read_faults → ⊥)
-        → IfTold (S.stored store.old).files (λ files. (word : List ℕ) (count : ℕ) → answer (map string_bytes words.now) files ≡ limit word count → (result ≡ Status.NoMemory) ⊎ (result ≡ Status.Limit)) }
+        → IfSome (S.stored store.old).files (λ files. (which : Limit) (count : ℕ)
+          → answer (map string_bytes words.now) files ≡ limit which count → (result ≡ Status.NoMemory) ⊎ (result ≡ Status.Limit)) }
+    ensures not_enabled { (Rose (S.stored store.old).read_faults (S.stored store.new).read_faults → ⊥) → (Rose (O.printed out.old).faults (O.printed out.new).faults → ⊥)
+        → IfSome (S.stored store.old).files (λ files. (file : List ℕ) (line : ℕ) (tokens text : List ℕ)
+          → answer (map string_bytes words.now) files ≡ refused file line tokens text → (result ≡ Status.NoMemory) ⊎ (result ≡ Status.NotEnabled)) }
 
-    // What each name holds after the command, and that no file is open after `Done`.
-    ensures files { IfTold (S.stored store.old).files (λ files. Told (S.stored store.old).files (S.stored store.new).files (FilesAfter (answer (map string_bytes words.now) files) result)) }
-    ensures closed { result ≡ Status.Done → (S.stored store.new).opened ≡ None }
+    // What each name holds after the command, and that no file is open after `Done` of a command that
+    // writes one.
+    ensures files { IfSome (S.stored store.old).files (λ files. Told (S.stored store.old).files (S.stored store.new).files (FilesAfter (answer (map string_bytes words.now) files) result)) }
+    ensures closed { (target : List ℕ) → Writes (plan_asked (map string_bytes words.now)) target → result ≡ Status.Done → (S.stored store.new).opened ≡ None }
 
-    // Nothing is printed, and what is told on the error output is the line of the status.
-    ensures print { O.printed out.new ≡ O.printed out.old }
-    ensures err { (line : List ℕ) × IsLine (map string_bytes words.now) (S.stored store.old) (S.stored store.new) result line × Tells line (O.printed err.old) (O.printed err.new) }
+    // What is printed, and what is told on the error output: the line of the status.
+    ensures print { IfSome (S.stored store.old).files (λ files. PrintedAfter (answer (map string_bytes words.now) files) result (O.printed out.old) (O.printed out.new)) }
+    ensures err { (line : List ℕ) × IsLine (plan_asked (map string_bytes words.now)) (S.stored store.old) (S.stored store.new) result line × Tells line (O.printed err.old) (O.printed err.new) }
     ensures out_goes_on { O.goes_on out.old out.new }
     ensures err_goes_on { O.goes_on err.old err.new }
 {
-    match command_of(words) {
-        Some(command) => {
-            let (source, target) = command.files();
-            end(perform(alloc, command, store), source, target, err)
-        }
-        None => {
-            tell_usage(err);
-            Status::Usage
-        }
-    }
-}
-
-/// Tells how a command ended, unless it was done, and gives its status.
-fn end<O: Out>(ended: Result<(), Refusal>, source: &str, target: &str, err: &mut O) -> Status
-    requires { IsTrue (is_file_name source.now) }
-    ensures status { result ≡ end_status ended }
-    ensures told { Tells (end_line source.now target.now ended) (O.printed err.old) (O.printed err.new) }
-    ensures goes_on { O.goes_on err.old err.new }
-{
-    match &ended {
-        Ok(()) => Status::Done,
-        Err(refusal) => {
-            tell(refusal, source, target, err);
-            refusal.status()
-        }
-    }
+    let Some(command) = command_of(words) else {
+        tell_usage(err);
+        return Status::Usage;
+    };
+    let ended = perform(alloc, command, store, out);
+    tell_end(&ended, err);
+    status_of(&ended)
 }
 
 /// Does what a command asks for.
-fn perform<S: Store>(alloc: Global, command: Command<'_>, store: &mut S) -> Result<(), Refusal>
-    requires { IsWithin (seen command) }
-    ensures { Ends (seen command.entry) (S.stored store.old) (S.stored store.new) result }
+fn perform<S: Store, O: Out>(alloc: Global, command: Command, store: &mut S, out: &mut O) -> Result<(), Refusal>
+    requires { HasLink command }
+    ensures ends { Ends (plan_of command) (S.stored store.old) (S.stored store.new) (O.printed out.old) (O.printed out.new) result }
+    ensures goes_on { O.goes_on out.old out.new }
 {
     match command {
-        Command::Flat { source, target } => flat(alloc, source, target, store),
+        Command::Flat { source, target } => flat(alloc, &source, &target, store),
         Command::One {
             source,
             target,
             link,
-        } => one(alloc, source, target, link, store),
+        } => one(alloc, &source, &target, link, store),
     }
 }
 
 /// Turns the flat source in one file into the code bytes in another.
-fn flat<S: Store>(alloc: Global, source: &str, target: &str, store: &mut S) -> Result<(), Refusal>
-    requires source { length source.now ≤ 255 }
-    requires target { length target.now ≤ 255 }
-    ensures { SourceEnds source.now target.now (λ bytes. bytes) (S.stored store.old) (S.stored store.new) result }
+fn flat<S: Store>(alloc: Global, source: &FileName, target: &FileName, store: &mut S) -> Result<(), Refusal>
+    ensures { (said : Printed) → Ends (then_plan (code_plan source.now) (written_from target.now (λ code. code))) (S.stored store.old) (S.stored store.new) said said result }
 {
-    let code = flat_code(alloc, source, store)?;
-    put_file(store, target, &code)?;
-    Ok(())
+    let code = read_code(alloc, source, store)?;
+    write_file(target, &code, store)
 }
 
 /// Turns the flat source in one file into the stream, in another, that boots one processor by a
 /// link and runs the code.
 fn one<S: Store>(
     alloc: Global,
-    source: &str,
-    target: &str,
+    source: &FileName,
+    target: &FileName,
     link: u8,
     store: &mut S,
 ) -> Result<(), Refusal>
-    requires source { length source.now ≤ 255 }
-    requires target { length target.now ≤ 255 }
-    requires link { link < 4 }
-    ensures { SourceEnds source.now target.now (boot_stream link) (S.stored store.old) (S.stored store.new) result }
+    requires { link < 4 }
+    ensures { (said : Printed) → Ends (then_plan (code_plan source.now) (written_from target.now (boot_stream link))) (S.stored store.old) (S.stored store.new) said said result }
 {
-    let code = flat_code(alloc, source, store)?;
-    put_code_stream(alloc, store, target, link, code)?;
-    Ok(())
-}
-
-/// The code bytes of the flat source in a file.
-fn flat_code<S: Store>(alloc: Global, source: &str, store: &mut S) -> Result<Vec<u8>, Refusal>
-    requires { length source.now ≤ 255 }
-    ensures ok { IfOk result (λ bytes. IsCodeOf source.now (S.stored store.old) bytes.items) }
-    ensures within { IfOk result (λ bytes. vec_len bytes ≤ 262144) }
-    ensures err { IfErr result (IsRefusal source.now (S.stored store.old) (S.stored store.new)) }
-    ensures same { S.stored store.new ≡ record (S.stored store.old) { read_faults = (S.stored store.new).read_faults } }
-{
-    let mut text = Vec::new(alloc);
-    match store.get(source, FILE_LIMIT, &mut text) {
-        Ok(()) => code_of_text(alloc, &text),
-        Err(GetFault::Failed) => Err(Refusal::Unread),
-        Err(GetFault::TooLong(_)) => Err(Refusal::LongFile),
-        Err(GetFault::NoMemory) => Err(Refusal::NoMemory),
-    }
-}
-
-/// The code bytes of a text.
-fn code_of_text(alloc: Global, text: &[u8]) -> Result<Vec<u8>, Refusal>
-    requires { length text.now ≤ 1048576 }
-    ensures ok { IfOk result (λ bytes. coded (Some text.now) ≡ code bytes.items) }
-    ensures within { IfOk result (λ bytes. vec_len bytes ≤ 262144) }
-    ensures err { IfErr result (IsNoCode text.now) }
-{
-    let instructions = read_flat(alloc, text)?;
-    let code = code_of(alloc, &instructions)?;
-    if code.len() > CODE_LIMIT {
-        return Err(Refusal::MuchCode(code.len() as u64));
-    }
-    Ok(code)
+    let code = read_code(alloc, source, store)?;
+    write_code_stream(alloc, target, link, code, store)
 }

@@ -1,67 +1,42 @@
 ghost use Rattle.std.specs.Prelude.{◌≡◌};
-ghost use Rattle.tn_top.specs.Refusals.{refused_status};
+ghost use Rattle.tn_top.specs.Refusals.{end_status};
 
 use crate::statuses::Status;
 use std::alloc::AllocError;
-use tn_io::PutFault;
-use tn_text::{Fault, ReadFault};
+use tn_text::limits::Limit;
+use tn_text::{Fault, FileName};
 
-/// Why a command ends without having done what it was asked for.
-#[derive(Clone, Copy, Debug, PartialEq, Eq)]
+/// Why a command ends without having done what it was asked for. It carries all that its line tells.
+#[derive(Drop)]
 pub enum Refusal {
-    /// The source has this fault, the first of all.
-    Fault(Fault),
-    /// The source has more bytes than a file may have.
-    LongFile,
-    /// The code has this many bytes, more than a processor may have.
-    MuchCode(u64),
-    /// The source cannot be read.
-    Unread,
+    /// The file has this fault, the first of all.
+    Fault(FileName, Fault),
+    /// This limit is passed, by this count.
+    Limit(Limit, u64),
+    /// The file cannot be read.
+    Unread(FileName),
     /// The file cannot be written.
-    Unwritten,
+    Unwritten(FileName),
+    /// The output cannot be printed to.
+    Unprinted,
+    /// What this line of the file asks for, by its tokens, is not enabled.
+    NotEnabled(FileName, u32, Vec<u8>),
     NoMemory,
 }
 
-impl Refusal {
-    /// The status that the program ends with.
-    pub fn status(&self) -> Status
-        ensures { result ≡ refused_status self.now }
-    {
-        match self {
-            Refusal::Fault(_) => Status::Fault,
-            Refusal::LongFile | Refusal::MuchCode(_) => Status::Limit,
-            Refusal::Unread => Status::ReadFault,
-            Refusal::Unwritten => Status::WriteFault,
-            Refusal::NoMemory => Status::NoMemory,
-        }
-    }
-}
-
-impl From<ReadFault> for Refusal {
-    ghost use Rattle.std.specs.Prelude.{◌≡◌};
-    ghost use Rattle.tn_top.specs.Refusals.{refusal_of};
-
-    ghost from_gives = { λ fault refusal. refusal ≡ refusal_of fault };
-
-    fn from(fault: ReadFault) -> Refusal {
-        match fault {
-            ReadFault::Fault(first) => Refusal::Fault(first),
-            ReadFault::NoMemory => Refusal::NoMemory,
-        }
-    }
-}
-
-impl From<PutFault> for Refusal {
-    ghost use Rattle.std.specs.Prelude.{◌≡◌};
-    ghost use Rattle.tn_top.specs.Refusals.{put_refusal};
-
-    ghost from_gives = { λ fault refusal. refusal ≡ put_refusal fault };
-
-    fn from(fault: PutFault) -> Refusal {
-        match fault {
-            PutFault::Failed => Refusal::Unwritten,
-            PutFault::NoMemory => Refusal::NoMemory,
-        }
+/// The status that a command ends with.
+pub fn status_of(ended: &Result<(), Refusal>) -> Status
+    ensures { result ≡ end_status ended.now }
+{
+    match ended {
+        Ok(()) => Status::Done,
+        Err(Refusal::Fault(_, _)) => Status::Fault,
+        Err(Refusal::Limit(_, _)) => Status::Limit,
+        Err(Refusal::Unread(_)) => Status::ReadFault,
+        Err(Refusal::Unwritten(_)) => Status::WriteFault,
+        Err(Refusal::Unprinted) => Status::OutFault,
+        Err(Refusal::NotEnabled(_, _, _)) => Status::NotEnabled,
+        Err(Refusal::NoMemory) => Status::NoMemory,
     }
 }
 

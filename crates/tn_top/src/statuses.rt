@@ -1,5 +1,5 @@
 ghost use Rattle.std.specs.Prelude.{◌≡◌};
-ghost use Rattle.tn_top.specs.Statuses.{code_of};
+ghost use Rattle.tn_top.specs.ExitCodes.{exit_code};
 
 /// How a command ended.
 #[derive(Clone, Copy, Debug, PartialEq, Eq)]
@@ -25,7 +25,7 @@ pub enum Status {
 
 /// The exit code of a status: 0 for `Done`, and 1 to 8 for the others in their order.
 pub fn code(s: Status) -> u8
-    ensures { result ≡ code_of s }
+    ensures { result ≡ exit_code s }
 {
     match s {
         Status::Done => 0,

@@ -1,46 +1,28 @@
-ghost use Rattle.std.specs.Prelude.{◌≡◌, ◌<◌, true, IsTrue, map, string_bytes, IfSome};
-ghost use Rattle.tn_text.specs.FileNames.{is_file_name};
-ghost use Rattle.std.specs.Option.{option_map};
-ghost use Rattle.tn_top.specs.Words.{is_file_word, link_named, flat_asked, one_asked, asked, seen, source_of, target_of, IsWithin};
+ghost use Rattle.std.specs.Prelude.{◌≡◌, ◌<◌, true, false, Some, None, map, string_bytes, IfSome, if◌then◌else◌};
+ghost use Rattle.tn_top.specs.CommandWords.{is_file_word, link_named, flat_asked, one_asked, asked, HasLink};
 
-use tn_text::FILE_NAME_LIMIT;
+use tn_text::FileName;
 
 /// What the words of a command line ask for.
-#[derive(Clone, Copy)]
-pub enum Command<'a> {
+#[derive(Drop)]
+pub enum Command {
     /// Turn the flat source in one file into the code bytes in another.
-    Flat {
-        source: &'a str,
-        target: &'a str,
-    },
+    Flat { source: FileName, target: FileName },
     /// Turn the flat source in one file into the stream, in another, that boots one processor by
     /// this link and runs the code.
     One {
-        source: &'a str,
-        target: &'a str,
+        source: FileName,
+        target: FileName,
         link: u8,
     },
 }
 
-impl<'a> Command<'a> {
-    /// The file that is read, and the file that is written.
-    pub fn files(&self) -> (&'a str, &'a str)
-        ensures source { result.0.now ≡ source_of (seen self.now) }
-        ensures target { result.1.now ≡ target_of (seen self.now) }
-    {
-        match self {
-            Command::Flat { source, target } => (source, target),
-            Command::One { source, target, .. } => (source, target),
-        }
-    }
-}
-
 /// The command that the words after the program's name spell, if they spell one. A file's name is
 /// not empty, doesn't begin with `-`, and has at most 255 bytes.
-#[tactic(auto, unfolding(crate::specs::Words::asked))]
-pub fn command_of(words: &[String]) -> Option<Command<'_>>
-    ensures asked { option_map seen result ≡ asked (map string_bytes words.now) }
-    ensures within { IfSome result (λ command. IsWithin (seen command)) }
+#[tactic(auto, unfolding(crate::specs::CommandWords::asked))]
+pub fn command_of(words: &[String]) -> Option<Command>
+    ensures asked { result ≡ asked (map string_bytes words.now) }
+    ensures link { IfSome result HasLink }
 {
     match words {
         [command, source, target] => flat_words(command, source, target),
@@ -50,25 +32,26 @@ pub fn command_of(words: &[String]) -> Option<Command<'_>>
 }
 
 /// The words of `flat IN OUT`.
-fn flat_words<'a>(command: &str, source: &'a str, target: &'a str) -> Option<Command<'a>>
-    ensures asked { option_map seen result ≡ flat_asked command.now source.now target.now }
-    ensures within { IfSome result (λ command. IsWithin (seen command)) }
+fn flat_words(command: &str, source: &str, target: &str) -> Option<Command>
+    ensures asked { result ≡ flat_asked command.now source.now target.now }
+    ensures link { IfSome result HasLink }
 {
-    if command == "flat" && is_file_word(source) && is_file_word(target) {
-        Some(Command::Flat { source, target })
-    } else {
-        None
+    if command != "flat" {
+        return None;
     }
+    let (source, target) = (file_word(source)?, file_word(target)?);
+    Some(Command::Flat { source, target })
 }
 
 /// The words of `one IN OUT K`.
-fn one_words<'a>(command: &str, source: &'a str, target: &'a str, link: &str) -> Option<Command<'a>>
-    ensures asked { option_map seen result ≡ one_asked command.now source.now target.now link.now }
-    ensures within { IfSome result (λ command. IsWithin (seen command)) }
+fn one_words(command: &str, source: &str, target: &str, link: &str) -> Option<Command>
+    ensures asked { result ≡ one_asked command.now source.now target.now link.now }
+    ensures link { IfSome result HasLink }
 {
-    if command != "one" || !is_file_word(source) || !is_file_word(target) {
+    if command != "one" {
         return None;
     }
+    let (source, target) = (file_word(source)?, file_word(target)?);
     let link = link_of(link)?;
     Some(Command::One {
         source,
@@ -78,7 +61,7 @@ fn one_words<'a>(command: &str, source: &'a str, target: &'a str, link: &str) ->
 }
 
 /// The link that a word names: `0` to `3`.
-#[tactic(auto, using(std::proofs::lemmas::Bool::Decides::nat_tests), unfolding(crate::specs::Words::link_named))]
+#[tactic(auto, using(std::proofs::lemmas::Bool::Decides::nat_tests), unfolding(crate::specs::CommandWords::link_named))]
 fn link_of(word: &str) -> Option<u8>
     ensures value { result ≡ link_named word.now }
     ensures within { IfSome result (λ link. link < 4) }
@@ -89,14 +72,12 @@ fn link_of(word: &str) -> Option<u8>
     }
 }
 
-/// Whether a word may name a file.
-fn is_file_word(word: &str) -> bool
-    ensures value { result ≡ is_file_word word.now }
-    ensures named { result ≡ true → IsTrue (is_file_name word.now) }
+/// The file that a word names, if it may name one.
+fn file_word(word: &str) -> Option<FileName>
+    ensures { result ≡ (if is_file_word word.now then Some word.now else None) }
 {
-    let bytes = word.as_bytes();
-    match bytes {
-        [] | [b'-', ..] => false,
-        [_, ..] => bytes.len() <= FILE_NAME_LIMIT,
+    if word.as_bytes().first() == Some(&b'-') {
+        return None;
     }
+    FileName::of(word)
 }

@@ -1,21 +1,28 @@
-use Rattle.std.proofs.Common.{Err, ap}
-use Rattle.tn_top.specs.OneProcessor.{boot_stream}
+use Rattle.std.proofs.Common.{Vec, Global, List, ℕ, refl}
 use Rattle.tn_text.proofs.Results.{of-error}
-use Rattle.tn_top.specs.Refusals.{put_refusal}
-use Rattle.tn_top.specs.Sources.{SourceEnds}
-use Rattle.tn_top.proofs.SourceSteps.{ends-refused, ends-done, ends-put}
+use Rattle.tn_top.specs.Plans.{then_plan}
+use Rattle.tn_top.specs.Commands.{code_plan, written_from}
+use Rattle.tn_top.specs.OneProcessor.{boot_stream}
+use Rattle.tn_top.specs.Inner.Ends.{Ends}
+use Rattle.tn_top.proofs.EndLaws.{ends_stopped, ends_written}
 use Rattle.tn_top.proofs.commands.one.Goals as goal
 
 pub returns-in_err-code : goal.returns-in_err-code
-returns-in_err-code g c =
-    of-error (SourceEnds c.args.source.now c.args.target.now (boot_stream c.args.link) (g.S.Store.stored c.args.store.now) (g.S.Store.stored c.flat_code.new.store)) c.from_residual.result c.in_err-code.field-0.0 c.from_residual.ensures.1
-    (ends-refused c.args.source.now c.args.target.now (boot_stream c.args.link) (g.S.Store.stored c.args.store.now) (g.S.Store.stored c.flat_code.new.store) c.in_err-code.ensures.same _ c.in_err-code.field-0.0 c.in_err-code.ensures.err)
-
-pub returns-in_err-put_code_stream : goal.returns-in_err-put_code_stream
-returns-in_err-put_code_stream g c =
-    of-error (SourceEnds c.args.source.now c.args.target.now (boot_stream c.args.link) (g.S.Store.stored c.args.store.now) (g.S.Store.stored c.put_code_stream.new.store)) c.from_residual-in_err-put_code_stream.result (put_refusal c.in_err-put_code_stream.field-0.0) c.from_residual-in_err-put_code_stream.ensures.1
-    (ends-put c.args.source.now c.args.target.now (boot_stream c.args.link) (g.S.Store.stored c.args.store.now) (g.S.Store.stored c.flat_code.new.store) c.in_ok-code.ensures.same (g.S.Store.stored c.put_code_stream.new.store) c.in_ok-code.code.items c.in_ok-code.ensures.ok _ c.in_err-put_code_stream.field-0.0 (λ e. c.in_err-put_code_stream.ensures.failed (ap Err e)) c.in_err-put_code_stream.ensures.err)
+returns-in_err-code g c = λ said.
+    let seen : Vec ℕ Global → List ℕ = λ code. code.items in
+    let rest = written_from c.args.target.now (boot_stream c.args.link) in
+    let plan = code_plan c.args.source.now in
+    let before = g.S.Store.stored c.args.store.now in
+    let after = g.S.Store.stored c.read_code.new.store in
+    of-error (Ends (then_plan plan rest) before after said said) c.from_residual.result c.in_err-code.field-0.0 c.from_residual.ensures.1
+    (ends_stopped seen rest plan before after said c.in_err-code.field-0.0 c.in_err-code.ensures.staged)
 
 pub returns : goal.returns
-returns g c =
-    ends-done c.args.source.now c.args.target.now (boot_stream c.args.link) (g.S.Store.stored c.args.store.now) (g.S.Store.stored c.flat_code.new.store) c.in_ok-code.ensures.same (g.S.Store.stored c.put_code_stream.new.store) c.in_ok-code.code.items c.in_ok-code.ensures.ok tt c.in_ok-put_code_stream.ensures.closed c.in_ok-put_code_stream.ensures.ok
+returns g c = λ said.
+    let seen : Vec ℕ Global → List ℕ = λ code. code.items in
+    let before = g.S.Store.stored c.args.store.now in
+    let read = g.S.Store.stored c.read_code.new.store in
+    let after = g.S.Store.stored c.write_code_stream.new.store in
+    let code = c.in_ok-code.code in
+    ends_written seen (written_from c.args.target.now (boot_stream c.args.link)) (code_plan c.args.source.now) before read after said said code c.in_ok-code.ensures.staged
+    c.args.target.now (boot_stream c.args.link code.items) c.write_code_stream.result refl c.write_code_stream.ensures

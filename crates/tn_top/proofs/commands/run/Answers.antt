@@ -1,36 +1,62 @@
-use Rattle.std.proofs.Common.{map, string_bytes}
-use Rattle.tn_top.specs.Words.{seen, source_of, target_of}
+use Rattle.std.proofs.Common.{◌≡◌, ap, sym, Some, map, string_bytes, ◌∙◌}
+use Rattle.std.specs.Option.{option_map}
+use Rattle.tn_top.specs.Commands.{plan_of, plan_asked}
 use Rattle.tn_top.specs.Refusals.{end_line}
-use Rattle.tn_top.proofs.Causes.{ends_cause, ends_status, ends_fault, ends_limit, ends_files, ends_closed, ends_line}
+use Rattle.tn_top.proofs.RunLaws.{run_cause, run_status, run_fault, run_limit, run_not_enabled, run_files, run_closed, run_print, run_line}
 use Rattle.tn_top.proofs.commands.run.Goals as goal
 
-pub returns-in-Some-clause-cause : goal.returns-in-Some-clause-cause
-returns-in-Some-clause-cause g c =
-    rw c.end.ensures.status (ends_cause (map string_bytes c.args.words.now) (g.S.Store.stored c.args.store.now) (g.S.Store.stored c.perform.new.store) c.perform.result (seen c.in-Some.command) c.in-Some.ensures.asked c.perform.ensures)
+pub returns-clause-cause : goal.returns-clause-cause
+returns-clause-cause g c =
+    run_cause (plan_asked (map string_bytes c.args.words.now)) (plan_of c.in-Some.command) (ap (option_map plan_of) (sym c.in-Some.ensures.asked))
+    (g.S.Store.stored c.args.store.now) (g.S.Store.stored c.perform-ended.new.store) (g.O.Out.printed c.args.out.now) (g.O.Out.printed c.perform-ended.new.out)
+    c.perform-ended.result c.perform-ended.ensures.ends c.status_of.result c.status_of.ensures
 
-pub returns-in-Some-clause-status : goal.returns-in-Some-clause-status
-returns-in-Some-clause-status g c =
-    rw c.end.ensures.status (ends_status (map string_bytes c.args.words.now) (g.S.Store.stored c.args.store.now) (g.S.Store.stored c.perform.new.store) c.perform.result (seen c.in-Some.command) c.in-Some.ensures.asked c.perform.ensures)
+pub returns-clause-status : goal.returns-clause-status
+returns-clause-status g c =
+    run_status (plan_asked (map string_bytes c.args.words.now)) (plan_of c.in-Some.command) (ap (option_map plan_of) (sym c.in-Some.ensures.asked))
+    (g.S.Store.stored c.args.store.now) (g.S.Store.stored c.perform-ended.new.store) (g.O.Out.printed c.args.out.now) (g.O.Out.printed c.perform-ended.new.out)
+    c.perform-ended.result c.perform-ended.ensures.ends c.status_of.result c.status_of.ensures
 
-pub returns-in-Some-clause-fault : goal.returns-in-Some-clause-fault
-returns-in-Some-clause-fault g c =
-    rw c.end.ensures.status (ends_fault (map string_bytes c.args.words.now) (g.S.Store.stored c.args.store.now) (g.S.Store.stored c.perform.new.store) c.perform.result (seen c.in-Some.command) c.in-Some.ensures.asked c.perform.ensures)
+pub returns-clause-fault : goal.returns-clause-fault
+returns-clause-fault g c =
+    run_fault (plan_asked (map string_bytes c.args.words.now)) (plan_of c.in-Some.command) (ap (option_map plan_of) (sym c.in-Some.ensures.asked))
+    (g.S.Store.stored c.args.store.now) (g.S.Store.stored c.perform-ended.new.store) (g.O.Out.printed c.args.out.now) (g.O.Out.printed c.perform-ended.new.out)
+    c.perform-ended.result c.perform-ended.ensures.ends c.status_of.result c.status_of.ensures
 
-pub returns-in-Some-clause-limit : goal.returns-in-Some-clause-limit
-returns-in-Some-clause-limit g c =
-    rw c.end.ensures.status (ends_limit (map string_bytes c.args.words.now) (g.S.Store.stored c.args.store.now) (g.S.Store.stored c.perform.new.store) c.perform.result (seen c.in-Some.command) c.in-Some.ensures.asked c.perform.ensures)
+pub returns-clause-limit : goal.returns-clause-limit
+returns-clause-limit g c =
+    run_limit (plan_asked (map string_bytes c.args.words.now)) (plan_of c.in-Some.command) (ap (option_map plan_of) (sym c.in-Some.ensures.asked))
+    (g.S.Store.stored c.args.store.now) (g.S.Store.stored c.perform-ended.new.store) (g.O.Out.printed c.args.out.now) (g.O.Out.printed c.perform-ended.new.out)
+    c.perform-ended.result c.perform-ended.ensures.ends c.status_of.result c.status_of.ensures
 
-pub returns-in-Some-clause-files : goal.returns-in-Some-clause-files
-returns-in-Some-clause-files g c =
-    rw c.end.ensures.status (ends_files (map string_bytes c.args.words.now) (g.S.Store.stored c.args.store.now) (g.S.Store.stored c.perform.new.store) c.perform.result (seen c.in-Some.command) c.in-Some.ensures.asked c.perform.ensures)
+pub returns-clause-not_enabled : goal.returns-clause-not_enabled
+returns-clause-not_enabled g c =
+    run_not_enabled (plan_asked (map string_bytes c.args.words.now)) (plan_of c.in-Some.command) (ap (option_map plan_of) (sym c.in-Some.ensures.asked))
+    (g.S.Store.stored c.args.store.now) (g.S.Store.stored c.perform-ended.new.store) (g.O.Out.printed c.args.out.now) (g.O.Out.printed c.perform-ended.new.out)
+    c.perform-ended.result c.perform-ended.ensures.ends c.status_of.result c.status_of.ensures
 
-pub returns-in-Some-clause-closed : goal.returns-in-Some-clause-closed
-returns-in-Some-clause-closed g c =
-    rw c.end.ensures.status (ends_closed (map string_bytes c.args.words.now) (g.S.Store.stored c.args.store.now) (g.S.Store.stored c.perform.new.store) c.perform.result (seen c.in-Some.command) c.perform.ensures)
+pub returns-clause-files : goal.returns-clause-files
+returns-clause-files g c =
+    run_files (plan_asked (map string_bytes c.args.words.now)) (plan_of c.in-Some.command) (ap (option_map plan_of) (sym c.in-Some.ensures.asked))
+    (g.S.Store.stored c.args.store.now) (g.S.Store.stored c.perform-ended.new.store) (g.O.Out.printed c.args.out.now) (g.O.Out.printed c.perform-ended.new.out)
+    c.perform-ended.result c.perform-ended.ensures.ends c.status_of.result c.status_of.ensures
 
-pub returns-in-Some-clause-err : goal.returns-in-Some-clause-err
-returns-in-Some-clause-err g c = (
-  end_line (source_of (seen c.in-Some.command)) (target_of (seen c.in-Some.command)) c.perform.result,
-  rw c.end.ensures.status (ends_line (map string_bytes c.args.words.now) (g.S.Store.stored c.args.store.now) (g.S.Store.stored c.perform.new.store) c.perform.result (seen c.in-Some.command) c.in-Some.ensures.asked c.perform.ensures),
-  rw (c.files.ensures.source, c.files.ensures.target) at c.end.ensures.told,
-)
+pub returns-clause-closed : goal.returns-clause-closed
+returns-clause-closed g c =
+    run_closed (plan_asked (map string_bytes c.args.words.now)) (plan_of c.in-Some.command) (ap (option_map plan_of) (sym c.in-Some.ensures.asked))
+    (g.S.Store.stored c.args.store.now) (g.S.Store.stored c.perform-ended.new.store) (g.O.Out.printed c.args.out.now) (g.O.Out.printed c.perform-ended.new.out)
+    c.perform-ended.result c.perform-ended.ensures.ends c.status_of.result c.status_of.ensures
+
+pub returns-clause-print : goal.returns-clause-print
+returns-clause-print g c =
+    run_print (plan_asked (map string_bytes c.args.words.now)) (plan_of c.in-Some.command) (ap (option_map plan_of) (sym c.in-Some.ensures.asked))
+    (g.S.Store.stored c.args.store.now) (g.S.Store.stored c.perform-ended.new.store) (g.O.Out.printed c.args.out.now) (g.O.Out.printed c.perform-ended.new.out)
+    c.perform-ended.result c.perform-ended.ensures.ends c.status_of.result c.status_of.ensures
+
+pub returns-clause-err : goal.returns-clause-err
+returns-clause-err g c =
+    ( end_line c.perform-ended.result,
+    run_line (plan_asked (map string_bytes c.args.words.now)) (plan_of c.in-Some.command) (ap (option_map plan_of) (sym c.in-Some.ensures.asked))
+    (g.S.Store.stored c.args.store.now) (g.S.Store.stored c.perform-ended.new.store) (g.O.Out.printed c.args.out.now) (g.O.Out.printed c.perform-ended.new.out)
+    c.perform-ended.result c.perform-ended.ensures.ends c.status_of.result c.status_of.ensures,
+    c.tell_end.ensures.told )

@@ -1,26 +1,11 @@
-use Rattle.std.proofs.Common.{codes}
+use Rattle.std.proofs.Common.{ap, ◌∙◌, ◌++◌, codes}
 use Rattle.std.specs.Fmt.{decimal}
-use Rattle.tn_text.specs.Words.{spaced}
-use Rattle.tn_text.proofs.Putting.{Puts-joined, Puts-stopped, Puts-refused}
+use Rattle.tn_text.specs.WordTexts.{spaced}
+use Rattle.tn_text.proofs.Putting.{Puts-as}
 use Rattle.tn_top.specs.Refusals.{limit_line}
 use Rattle.tn_top.proofs.err_lines.put_limit.Goals as goal
-
-pub returns-in_err-put-clause-puts : goal.returns-in_err-put-clause-puts
-unfolding limit_line
-returns-in_err-put-clause-puts g c =
-    Puts-refused c.from_residual.ensures.0 (Puts-stopped (codes "\n") (Puts-stopped (spaced (decimal c.args.count)) (Puts-stopped c.args.word.now c.in_err-put.ensures.puts)))
-
-pub returns-in_err-put-2-clause-puts : goal.returns-in_err-put-2-clause-puts
-unfolding limit_line
-returns-in_err-put-2-clause-puts g c =
-    Puts-refused c.from_residual-in_err-put-2.ensures.0 (Puts-stopped (codes "\n") (Puts-stopped (spaced (decimal c.args.count)) (Puts-joined c.in_ok-put.ensures.puts c.in_err-put-2.ensures.puts)))
-
-pub returns-in_err-put_spaced_decimal-clause-puts : goal.returns-in_err-put_spaced_decimal-clause-puts
-unfolding limit_line
-returns-in_err-put_spaced_decimal-clause-puts g c =
-    Puts-refused c.from_residual-in_err-put_spaced_decimal.ensures.0 (Puts-stopped (codes "\n") (Puts-joined (Puts-joined c.in_ok-put.ensures.puts c.in_ok-put-2.ensures.puts) c.in_err-put_spaced_decimal.ensures.puts))
 
 pub returns-clause-puts : goal.returns-clause-puts
 unfolding limit_line
 returns-clause-puts g c =
-    Puts-joined (Puts-joined (Puts-joined c.in_ok-put.ensures.puts c.in_ok-put-2.ensures.puts) c.in_ok-put_spaced_decimal.ensures.puts) c.put-3.ensures.puts
+    Puts-as (ap (λ word. codes "limit " ++ word ++ spaced (decimal c.args.count) ++ codes "\n") (c.as_bytes.ensures.value ∙ c.word.ensures)) c.put_counted.ensures.puts

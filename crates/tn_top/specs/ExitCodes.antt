@@ -4,13 +4,13 @@ use Rattle.tn_top.specs.declared.statuses.Status.{Status}
 use Rattle.tn_top.specs.declared.statuses.Status.TheVariants.{Done, Fault, Usage, Limit, ReadFault, WriteFault, OutFault, NoMemory, NotEnabled}
 
 -- the code that the program ends with
-abbrev pub code_of : Status → ℕ
-code_of Done = 0
-code_of Fault = 1
-code_of Usage = 2
-code_of Limit = 3
-code_of ReadFault = 4
-code_of WriteFault = 5
-code_of OutFault = 6
-code_of NoMemory = 7
-code_of NotEnabled = 8
+abbrev pub exit_code : Status → ℕ
+exit_code Done = 0
+exit_code Fault = 1
+exit_code Usage = 2
+exit_code Limit = 3
+exit_code ReadFault = 4
+exit_code WriteFault = 5
+exit_code OutFault = 6
+exit_code NoMemory = 7
+exit_code NotEnabled = 8

@@ -1,0 +1,3 @@
+-- What the functions inside promise one another. A reader of what `run` promises need not read on here.
+pub mod Stages
+pub mod Ends
