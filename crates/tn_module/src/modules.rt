@@ -1,6 +1,7 @@
 ghost use Rattle.std.specs.Prelude.{◌≡◌, IfOk, OnOk};
 ghost use Rattle.tn_module.specs.Modules.{module_of, IsShort};
 ghost use Rattle.tn_module.specs.Validity.{IsValid};
+ghost use Rattle.tn_module.specs.Ranges.{IsInRange};
 ghost use Rattle.tn_module.specs.Faults.{IsFirstFault, OnFault};
 
 use crate::checks::check_places;
@@ -118,12 +119,13 @@ pub struct Module {
 impl Model for Module {
     ghost use Rattle.tn_module.specs.Modules.{Parts, module_of};
     ghost use Rattle.tn_module.specs.Validity.{IsValid};
+    ghost use Rattle.tn_module.specs.Ranges.{IsInRange};
 
     ghost Value = { Parts };
 
     ghost view = { λ m. module_of m.raw };
 
-    ghost invariant = { λ m. IsValid (module_of m.raw) };
+    ghost invariant = { λ m. IsValid (module_of m.raw) × IsInRange (module_of m.raw) };
 }
 
 impl Module {
@@ -137,6 +139,7 @@ impl Module {
         requires { IsShort (module_of raw) }
         ensures parts { IfOk result (λ m. m ≡ module_of raw) }
         ensures valid { OnOk result (IsValid (module_of raw)) }
+        ensures ranges { OnOk result (IsInRange (module_of raw)) }
         ensures fault { OnFault result (IsFirstFault (module_of raw)) }
         ensures accepted { OnFault result (λ _. ¬ IsValid (module_of raw)) }
     {
@@ -148,6 +151,7 @@ impl Module {
     pub fn raw(&self) -> &RawModule
         ensures parts { module_of result.now ≡ self.now }
         ensures valid { IsValid self.now }
+        ensures ranges { IsInRange self.now }
     {
         &self.raw
     }
