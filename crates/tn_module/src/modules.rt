@@ -135,6 +135,7 @@ impl Module {
     /// place, where imports stand before labels of code and these before labels of cells. The fault
     /// names the name, or the first one at fault of a difference; `WrongOperand` names nothing. The
     /// order of faults is this project's own.
+    #[tactic(auto, using(crate::proofs::OneFirst::one_first_fault))]
     pub fn check(alloc: Global, raw: RawModule) -> Result<Module, CheckFault>
         requires { IsShort (module_of raw) }
         ensures parts { IfOk result (λ m. m ≡ module_of raw) }
@@ -142,6 +143,7 @@ impl Module {
         ensures ranges { OnOk result (IsInRange (module_of raw)) }
         ensures fault { OnFault result (IsFirstFault (module_of raw)) }
         ensures accepted { OnFault result (λ _. ¬ IsValid (module_of raw)) }
+        ensures one { (f : _) → (g : _) → IsFirstFault (module_of raw) f → IsFirstFault (module_of raw) g → f ≡ g }
     {
         check_places(alloc, &raw)?;
         Ok(Module { raw })
