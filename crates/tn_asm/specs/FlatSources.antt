@@ -1,5 +1,6 @@
 -- Flat sources: what their lines say, and what is wrong with a text that is none.
-use Rattle.std.specs.Prelude.{◌≡◌, ℕ, ◌+◌, ℤ, pos, Bool, true, false, ◌==◌, List, [], ◌∷◌, ◌++◌, length, Option, Some, None, is_some, if◌then◌else◌}
+use Rattle.std.specs.Prelude.{◌≡◌, ℕ, ◌+◌, ℤ, pos, Bool, true, false, ◌==◌, List, [], ◌∷◌, ◌++◌, length, Option, Some, None, is_some}
+use Rattle.std.specs.Prelude.{if◌then◌else◌}
 use Rattle.std.specs.List.{All}
 use Rattle.std.specs.Int.{w32, cast_signed}
 use Rattle.std.specs.Str.Lines.{lines}
@@ -19,20 +20,24 @@ use Rattle.tn_text.specs.Numbers.{number_of}
 
 -- what the tokens of a line say: nothing; an operation, which is the function opr with its code; or
 -- a function with a number, taken as a signed word
-unfoldable pub Says : List (List ℕ) → List (Fun × ℤ) → Type 0
-Says [] instructions = instructions ≡ []
-Says (word ∷ []) instructions = (op : Op) × (mnemonic_named word ≡ Some (Plain op)) × (instructions ≡ (Opr, pos (operation_code op)) ∷ [])
-Says (word ∷ token ∷ []) instructions = (f : Fun) × (operand : ℕ) × (mnemonic_named word ≡ Some (Direct f)) × (number_of token ≡ Some operand) × (instructions ≡ (f, cast_signed w32 operand) ∷ [])
-Says (word ∷ token ∷ next ∷ others) instructions = ⊥
+unfoldable pub TokensSay : List (List ℕ) → List (Fun × ℤ) → Type 0
+TokensSay [] instructions = instructions ≡ []
+TokensSay (word ∷ []) instructions =
+    (op : Op) × (mnemonic_named word ≡ Some (Plain op)) × (instructions ≡ (Opr, pos (operation_code op)) ∷ [])
+TokensSay (word ∷ token ∷ []) instructions =
+    (f : Fun) × (operand : ℕ) × (mnemonic_named word ≡ Some (Direct f)) × (number_of token ≡ Some operand)
+    × (instructions ≡ (f, cast_signed w32 operand) ∷ [])
+TokensSay (word ∷ token ∷ next ∷ others) instructions = ⊥
 
 -- what a line says
 abbrev pub LineSays : List ℕ → List (Fun × ℤ) → Type 0
-LineSays line instructions = (is_ascii_line line ≡ true) × Says (tokens line) instructions
+LineSays line instructions = (is_ascii_line line ≡ true) × TokensSay (tokens line) instructions
 
 -- what lines say, one after the other
 unfoldable pub LinesSay : List (List ℕ) → List (Fun × ℤ) → Type 0
 LinesSay [] instructions = instructions ≡ []
-LinesSay (line ∷ ls) instructions = (here : List (Fun × ℤ)) × (below : List (Fun × ℤ)) × LineSays line here × LinesSay ls below × (instructions ≡ here ++ below)
+LinesSay (line ∷ ls) instructions =
+    (here : List (Fun × ℤ)) × (below : List (Fun × ℤ)) × LineSays line here × LinesSay ls below × (instructions ≡ here ++ below)
 
 -- the text is a flat source of these instructions
 abbrev pub IsFlat : List ℕ → List (Fun × ℤ) → Type 0

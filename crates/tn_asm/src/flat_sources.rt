@@ -1,8 +1,8 @@
-ghost use Rattle.std.specs.Prelude.{◌≡◌, ℕ, ◌+◌, ◌*◌, ◌<◌, ◌^◌, ℤ, List, [], ◌∷◌, ◌++◌, length, map, Some, None, Ok, Err, IfOk};
+ghost use Rattle.std.specs.Prelude.{◌≡◌, ℕ, ◌<◌, ◌^◌, ℤ, List, length, map, Ok, Err, IfOk};
 ghost use Rattle.std.specs.Result.{result_map_both};
 ghost use Rattle.tn_isa.specs.declared.functions.Fun.{Fun};
 ghost use Rattle.tn_text.specs.declared.faults.ReadFault.TheVariants as read;
-ghost use Rattle.tn_text.specs.Reading.{Gives, token_step, placed};
+ghost use Rattle.tn_text.specs.Reading.{Gives, IsReading, token_step, placed};
 ghost use Rattle.tn_asm.specs.Instructions.{instruction_of};
 ghost use Rattle.tn_asm.specs.FlatSources.{IsFlat, IsFlatFault};
 ghost use Rattle.tn_asm.specs.FlatReading.{alone, with_token, instruction_said, flat_step, flat_read};
@@ -17,11 +17,16 @@ use tn_text::{Cause, FaultCode, ReadFault, next_line, number_at, read_tokens};
 /// a number, or the name of an operation; comments, blanks and numbers are as in all texts. The
 /// fault is that of the first line that is none of these: `NotAscii`, else `BadLine` for a first
 /// word or a number of tokens that is not right, else `BadNumber`.
+#[tactic(auto, using(crate::proofs::FlatLaws::flat_reading))]
 pub fn read_flat(alloc: Global, text: &[u8]) -> Result<Vec<Instruction>, ReadFault>
     requires { length text.now < 2 ^ 30 }
     ensures gives { Gives (λ found. map instruction_of found.items) result (flat_read text.now) }
+    ensures reading { (text : List ℕ) → IsReading (IsFlat text) (IsFlatFault text) (flat_read text) }
+
+    // So, unless there is no memory:
     ensures found { IfOk result (λ found. IsFlat text.now (map instruction_of found.items)) }
-    ensures only { (instructions : List (Fun × ℤ)) → IsFlat text.now instructions → Gives (λ found. map instruction_of found.items) result (Ok instructions) }
+    ensures only { (instructions : List (Fun × ℤ)) → IsFlat text.now instructions
+        → Gives (λ found. map instruction_of found.items) result (Ok instructions) }
     ensures fault { (fault : _) → result ≡ Err (read.Fault fault) → IsFlatFault text.now fault }
 {
     read_all(alloc, text)

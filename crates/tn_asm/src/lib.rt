@@ -6,6 +6,3 @@ mod instructions;
 
 pub use flat_sources::read_flat;
 pub use instructions::Instruction;
-
-#[cfg(test)]
-mod tests;

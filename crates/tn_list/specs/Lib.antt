@@ -1,2 +1,2 @@
 pub mod PrintedOuts
-pub mod PrintedOutLaws
+pub mod Inner

@@ -4,6 +4,3 @@
 mod printed;
 
 pub use printed::Printed;
-
-#[cfg(test)]
-mod tests;

@@ -1,5 +1,5 @@
 ghost use Rattle.tn_list.specs.PrintedOuts.{taken_by, GoesOn};
-ghost use Rattle.tn_list.specs.PrintedOutLaws.{goes_on-itself, goes_on-joined};
+ghost use Rattle.tn_list.specs.Inner.PrintedOutLaws.{goes_on-itself, goes_on-joined};
 ghost use Rattle.tn_text.specs.Puts.{Puts};
 
 use tn_io::Out;

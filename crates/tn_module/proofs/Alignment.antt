@@ -5,7 +5,8 @@ use Rattle.std.specs.Option.{option_to_list}
 use Rattle.tn_module.specs.declared.modules.Cell.{Cell}
 use Rattle.tn_module.specs.Names.{misaligned_label, misaligned_from, end_of}
 
-first : (at : ℕ) (c : Cell) (cs : List Cell) → misaligned_from at (c ∷ cs) ≡ option_to_list (misaligned_label at c) ++ misaligned_from (end_of at c) cs
+first : (at : ℕ) (c : Cell) (cs : List Cell) → misaligned_from at (c ∷ cs) ≡ option_to_list (misaligned_label at c) ++ misaligned_from
+    (end_of at c) cs
 unfolding misaligned_from
 first at c cs = refl
 
@@ -13,7 +14,9 @@ pub none_left : (at : ℕ) → misaligned_from at [] ≡ []
 unfolding misaligned_from
 none_left at = refl
 
-pub one_more : (cells : List Cell) (names new whole : List (List ℕ)) (at next i : ℕ) (c : Cell) → i < length cells → c ≡ get_or cells i c → new ≡ names ++ option_to_list (misaligned_label at c) → next ≡ end_of at c → names ++ misaligned_from at (drop i cells) ≡ whole → new ++ misaligned_from next (drop (i + 1) cells) ≡ whole
+pub one_more : (cells : List Cell) (names new whole : List (List ℕ)) (at next i : ℕ) (c : Cell) → i < length cells → c ≡ get_or cells i c
+    → new ≡ names ++ option_to_list (misaligned_label at c) → next ≡ end_of at c → names ++ misaligned_from at (drop i cells) ≡ whole
+    → new ++ misaligned_from next (drop (i + 1) cells) ≡ whole
 one_more cells names new whole at next i c h is found moved so_far =
     ap (λ l. l ++ misaligned_from next (drop (i + 1) cells)) found
     ∙ append_assoc names (option_to_list (misaligned_label at c)) (misaligned_from next (drop (i + 1) cells))

@@ -4,7 +4,8 @@ use Rattle.std.specs.List.{AllByRecursion}
 use Rattle.std.proofs.lemmas.Option.{none-some}
 use Rattle.tn_text.specs.declared.faults.Cause.{Cause}
 use Rattle.tn_text.specs.declared.faults.FaultCode.{FaultCode}
-use Rattle.tn_module.specs.Faults.{first_cause, named, each}
+use Rattle.tn_text.specs.Firsts.{first_cause}
+use Rattle.tn_module.specs.Faults.{named, each}
 
 pub not-false : (b : Bool) → not b ≡ false → b ≡ true
 not-false true h = refl

@@ -6,3 +6,4 @@ pub mod Recursion
 pub mod Distinct
 pub mod FirstCauses
 pub mod Laws
+pub mod OneFirst

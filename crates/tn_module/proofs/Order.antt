@@ -1,25 +1,33 @@
 -- The first fault of a module from the first fault of one of its lists.
-use Rattle.std.proofs.Common.{◌≡◌, ℕ, inl, inr, None, Result, Ok, Err, ap, ◌∙◌, subst, arith}
+use Rattle.std.proofs.Common.{◌≡◌, ℕ, inl, inr, None, Result, Ok, Err, sym, ap, ◌∙◌, subst, arith}
+use Rattle.std.proofs.lemmas.Option.{none-some}
 use Rattle.tn_module.specs.declared.faults.Place.{Place}
 use Rattle.tn_module.specs.declared.faults.Place.TheVariants as place
 use Rattle.tn_module.specs.declared.faults.ModuleFault.{ModuleFault}
 use Rattle.tn_module.specs.declared.faults.CheckFault.{CheckFault}
 use Rattle.tn_module.specs.declared.faults.CheckFault.TheVariants as check
 use Rattle.tn_module.specs.Modules.{Parts}
-use Rattle.tn_module.specs.Faults.{cause_at, IsBefore, IsSound, IsFirstFault, IfFault, OnFault}
-use Rattle.tn_module.specs.Sets.{AreSound, IsFirstIn}
+use Rattle.tn_module.specs.Faults.{cause_at, IsBefore, IsFirstFault, IfFault, OnFault}
+use Rattle.tn_module.specs.Inner.Sets.{IsSound, AreSound, IsFirstIn}
 
 pub if-fault : {P Q : ModuleFault → Type 0} (e : CheckFault) → ((f : ModuleFault) → P f → Q f) → IfFault e P → IfFault e Q
 if-fault (check.Fault f) h p = h f p
 if-fault check.NoMemory h p = tt
 
-pub on-fault : {T : Type 0} {P Q : ModuleFault → Type 0} (r : Result T CheckFault) → ((f : ModuleFault) → P f → Q f) → OnFault r P → OnFault r Q
+pub on-fault : {T : Type 0} {P Q : ModuleFault → Type 0} (r : Result T CheckFault) → ((f : ModuleFault) → P f → Q f) → OnFault r P
+    → OnFault r Q
 on-fault (Ok x) h p = tt
 on-fault (Err e) h p = if-fault e h p
 
 module _ (m : Parts) where
-  first : (at : ℕ → Place) (f : ModuleFault) (i : IsFirstIn at m f) → ((p : Place) → IsBefore p (at i.index) → cause_at m p ≡ None) → IsFirstFault m f
-  first at f i h = record { here = ap (cause_at m) i.placed ∙ i.here; before = λ p b. h p (subst (IsBefore p) i.placed b) }
+  first : (at : ℕ → Place) (f : ModuleFault) (i : IsFirstIn at m f) → ((p : Place) → IsBefore p (at i.index) → cause_at m p ≡ None)
+      → IsFirstFault m f
+  first at f i h =
+      record {
+        wrong = ap (cause_at m) i.placed ∙ i.here;
+        before = λ p cause b is. none-some cause
+            (sym (h p (subst (IsBefore p) i.placed b)) ∙ is);
+      }
 
   pub first_import : (f : ModuleFault) → IsFirstIn place.Import m f → IsFirstFault m f
   first_import f i = first place.Import f i by

@@ -1,11 +1,13 @@
 -- What is wrong at a place of a module, and the first place where anything is.
-use Rattle.std.specs.Prelude.{◌≡◌, ⊤, ℕ, ◌<◌, Bool, not, ◌⊎◌, List, [], ◌∷◌, ◌++◌, map, take, slice_get, Option, Some, None, option_and_then, Result, IfErr, if◌then◌else◌}
+use Rattle.std.specs.Prelude.{◌≡◌, ⊤, ℕ, ◌<◌, Bool, not, ◌⊎◌, List, [], ◌∷◌, ◌++◌, map, take, slice_get, Option, Some}
+use Rattle.std.specs.Prelude.{option_and_then, Result, IfErr}
 use Rattle.tn_isa.specs.declared.functions.Fun.{Fun}
 use Rattle.tn_text.specs.declared.faults.Cause.{Cause}
 use Rattle.tn_text.specs.declared.faults.FaultCode.{FaultCode}
 use Rattle.tn_text.specs.declared.faults.FaultCode.TheVariants.{DuplicateName, NoSuchName, WrongOperand, WrongKind, Misaligned}
 use Rattle.tn_text.specs.declared.faults.Detail.TheVariants.{Named}
 use Rattle.tn_text.specs.Faults.{bare}
+use Rattle.tn_text.specs.Firsts.{IsFirstWrong, first_cause}
 use Rattle.tn_module.specs.declared.faults.Place.{Place}
 use Rattle.tn_module.specs.declared.faults.Place.TheVariants as place
 use Rattle.tn_module.specs.declared.faults.ModuleFault.{ModuleFault}
@@ -18,7 +20,8 @@ use Rattle.tn_module.specs.declared.modules.Item.TheVariants as item
 use Rattle.tn_module.specs.declared.modules.Cell.{Cell}
 use Rattle.tn_module.specs.declared.modules.Cell.TheVariants as cell
 use Rattle.tn_module.specs.Modules.{Parts}
-use Rattle.tn_module.specs.Names.{is_among, import_names, code_labels, cell_labels, defined_names, code_names, cell_names, labels, misaligned, code_uses, cell_uses, takes}
+use Rattle.tn_module.specs.Names.{is_among, import_names, code_labels, cell_labels, defined_names, code_names, cell_names, labels}
+use Rattle.tn_module.specs.Names.{misaligned, code_uses, cell_uses, takes}
 
 -- what a module says of a name
 pub record Known : Type 0 where
@@ -29,12 +32,14 @@ pub record Known : Type 0 where
   pub misaligned : List ℕ → Bool
 
 abbrev pub known : Parts → Known
-known m = record { defined = is_among (defined_names m); code = is_among (code_names m); cell = is_among (cell_names m); label = is_among (labels m); misaligned = is_among (misaligned m) }
-
--- what may be wrong, with its test, and the first thing that is
-abbrev pub first_cause : List (Bool × Cause) → Option Cause
-first_cause [] = None
-first_cause (c ∷ cs) = if c.0 then Some c.1 else first_cause cs
+known m =
+    record {
+      defined = is_among (defined_names m);
+      code = is_among (code_names m);
+      cell = is_among (cell_names m);
+      label = is_among (labels m);
+      misaligned = is_among (misaligned m);
+    }
 
 -- a fault that names a name, and one for each of some names
 abbrev pub named : FaultCode → List ℕ → Cause
@@ -82,9 +87,12 @@ cell_causes known before (cell.Label name) = again before name ∷ []
 unfoldable pub cause_at : Parts → Place → Option Cause
 cause_at m (place.Import i) = option_and_then (λ x. first_cause (import_causes (import_names (take i m.imports)) x)) (slice_get m.imports i)
 cause_at m (place.Export i) = option_and_then (λ x. first_cause (export_causes (known m) (take i m.exports) x)) (slice_get m.exports i)
-cause_at m (place.Item i) = option_and_then (λ x. first_cause (item_causes (known m) (import_names m.imports ++ code_labels (take i m.items)) x)) (slice_get m.items i)
+cause_at m (place.Item i) =
+    option_and_then (λ x. first_cause (item_causes (known m) (import_names m.imports ++ code_labels (take i m.items)) x))
+    (slice_get m.items i)
 cause_at m (place.Cell i) =
-    option_and_then (λ x. first_cause (cell_causes (known m) ((import_names m.imports ++ code_labels m.items) ++ cell_labels (take i m.cells)) x)) (slice_get m.cells i)
+    option_and_then (λ x. first_cause (cell_causes (known m)
+    ((import_names m.imports ++ code_labels m.items) ++ cell_labels (take i m.cells)) x)) (slice_get m.cells i)
 
 -- the order of places: imports, exports, items, cells, and by index among each
 abbrev pub list_number : Place → ℕ
@@ -102,14 +110,13 @@ index (place.Cell i) = i
 abbrev pub IsBefore : Place → Place → Type 0
 IsBefore p q = (list_number p < list_number q) ⊎ ((list_number p ≡ list_number q) × (index p < index q))
 
--- nothing is wrong anywhere
-abbrev pub IsSound : Parts → Type 0
-IsSound m = (p : Place) → cause_at m p ≡ None
+-- the cause is what is wrong at the place
+abbrev pub IsWrong : Parts → Place → Cause → Type 0
+IsWrong m p cause = cause_at m p ≡ Some cause
 
--- the fault is what is wrong at its place, and nothing is wrong before
-pub record IsFirstFault (m : Parts) (fault : ModuleFault) : Type 0 where
-  pub here : cause_at m fault.place ≡ Some (record { code = fault.code; detail = fault.detail })
-  pub before : (p : Place) → IsBefore p fault.place → cause_at m p ≡ None
+-- the fault is what is wrong first
+abbrev pub IsFirstFault : Parts → ModuleFault → Type 0
+IsFirstFault m fault = IsFirstWrong IsBefore (IsWrong m) fault.place (record { code = fault.code; detail = fault.detail })
 
 -- what holds of the fault in an answer, if it has one
 abbrev pub IfFault : CheckFault → (ModuleFault → Type 0) → Type 0

@@ -2,4 +2,5 @@ pub mod Modules
 pub mod Names
 pub mod Validity
 pub mod Faults
-pub mod Sets
+pub mod Ranges
+pub mod Inner

@@ -15,7 +15,8 @@ pub record Parts : Type 0 where
 
 -- the parts of a module as the code holds it
 abbrev pub module_of : RawModule → Parts
-module_of raw = record { name = raw.name; imports = raw.imports.items; exports = raw.exports.items; items = raw.items.items; cells = raw.cells.items }
+module_of raw =
+    record { name = raw.name; imports = raw.imports.items; exports = raw.exports.items; items = raw.items.items; cells = raw.cells.items }
 
 -- each list is short enough for its indices to be words
 pub record IsShort (m : Parts) : Type 0 where

@@ -2,7 +2,8 @@
 use Rattle.std.specs.Prelude.{◌≡◌, ℕ, true, false, List, All}
 use Rattle.std.specs.List.{IsDistinct}
 use Rattle.tn_module.specs.Modules.{Parts}
-use Rattle.tn_module.specs.Names.{same_name, is_among, defined_names, code_names, cell_names, labels, misaligned, used_as_code, used_as_cells, used_in_cells, has_its_operand}
+use Rattle.tn_module.specs.Names.{same_name, is_among, defined_names, code_names, cell_names, labels, misaligned, used_as_code}
+use Rattle.tn_module.specs.Names.{used_as_cells, used_in_cells, has_its_operand}
 
 -- each of the names is one of those
 abbrev pub AllAmong : List (List ℕ) → List (List ℕ) → Type 0

@@ -1,10 +1,11 @@
-ghost use Rattle.std.specs.Prelude.{◌≡◌, ◌++◌, IfOk, OnOk};
+ghost use Rattle.std.specs.Prelude.{◌≡◌, ◌++◌, All, IfOk, OnOk};
 ghost use Rattle.tn_module.specs.declared.faults.Place.TheVariants as place;
 ghost use Rattle.tn_module.specs.declared.faults.CheckFault.TheVariants as check;
 ghost use Rattle.tn_module.specs.Modules.{module_of, IsShort};
+ghost use Rattle.tn_module.specs.Ranges.{IsName, IsImport, IsItem, IsCell, IsInRange};
 ghost use Rattle.tn_module.specs.Names.{import_names, code_labels};
-ghost use Rattle.tn_module.specs.Faults.{known, IsSound, IsFirstFault, OnFault};
-ghost use Rattle.tn_module.specs.Sets.{HaveSameNames, known_by, AreSound, IsFirstIn};
+ghost use Rattle.tn_module.specs.Faults.{known, IsFirstFault, OnFault};
+ghost use Rattle.tn_module.specs.Inner.Sets.{HaveSameNames, known_by, IsSound, AreSound, IsFirstIn};
 
 use crate::causes::{again, cell_cause, export_cause, item_cause};
 use crate::faults::{CheckFault, ModuleFault, Place};
@@ -12,14 +13,16 @@ use crate::modules::RawModule;
 use crate::name_sets::NameSets;
 use indexmap::IndexSet;
 use std::alloc::Global;
-use tn_text::{Cause, Name};
+use tn_text::{Cause, Name, is_name};
 
 /// Finds the first place where something is wrong with a module.
 pub(crate) fn check_places(alloc: Global, raw: &RawModule) -> Result<(), CheckFault>
     requires { IsShort (module_of raw.now) }
     ensures sound { OnOk result (IsSound (module_of raw.now)) }
+    ensures ranges { OnOk result (IsInRange (module_of raw.now)) }
     ensures fault { OnFault result (IsFirstFault (module_of raw.now)) }
 {
+    prove!(is_name(raw.name.bytes()));
     let names = NameSets::of(alloc, raw)?;
     let imported = check_imports(alloc, raw)?;
     check_exports(alloc, raw, &names)?;
@@ -32,6 +35,7 @@ fn check_imports(alloc: Global, raw: &RawModule) -> Result<IndexSet<Name>, Check
     requires { IsShort (module_of raw.now) }
     ensures names { IfOk result (λ seen. HaveSameNames seen.keys (import_names raw.now.imports.items)) }
     ensures sound { OnOk result (AreSound place.Import (module_of raw.now)) }
+    ensures ranges { OnOk result (All IsImport raw.now.imports.items) }
     ensures fault { OnFault result (IsFirstIn place.Import (module_of raw.now)) }
 {
     let mut seen = IndexSet::new(alloc);
@@ -48,6 +52,7 @@ fn check_exports(alloc: Global, raw: &RawModule, names: &NameSets) -> Result<(),
     requires short { IsShort (module_of raw.now) }
     requires names { known_by names.now ≡ known (module_of raw.now) }
     ensures sound { OnOk result (AreSound place.Export (module_of raw.now)) }
+    ensures ranges { OnOk result (All IsName (module_of raw.now).exports) }
     ensures fault { OnFault result (IsFirstIn place.Export (module_of raw.now)) }
 {
     let mut seen = IndexSet::new(alloc);
@@ -70,6 +75,7 @@ fn check_items(
     requires seen { HaveSameNames seen.keys (import_names raw.now.imports.items) }
     ensures names { IfOk result (λ seen. HaveSameNames seen.keys (import_names raw.now.imports.items ++ code_labels raw.now.items.items)) }
     ensures sound { OnOk result (AreSound place.Item (module_of raw.now)) }
+    ensures ranges { OnOk result (All IsItem raw.now.items.items) }
     ensures fault { OnFault result (IsFirstIn place.Item (module_of raw.now)) }
 {
     for (i, item) in raw.items.iter().enumerate() {
@@ -90,6 +96,7 @@ fn check_cells(
     requires names { known_by names.now ≡ known (module_of raw.now) }
     requires seen { HaveSameNames seen.keys (import_names raw.now.imports.items ++ code_labels raw.now.items.items) }
     ensures sound { OnOk result (AreSound place.Cell (module_of raw.now)) }
+    ensures ranges { OnOk result (All IsCell raw.now.cells.items) }
     ensures fault { OnFault result (IsFirstIn place.Cell (module_of raw.now)) }
 {
     for (i, cell) in raw.cells.iter().enumerate() {

@@ -10,6 +10,3 @@ mod name_sets;
 
 pub use faults::{CheckFault, ModuleFault, Place};
 pub use modules::{Cell, Import, Item, Kind, Library, Module, NoMemory, Operand, RawModule};
-
-#[cfg(test)]
-mod tests;

@@ -1,6 +1,7 @@
 ghost use Rattle.std.specs.Prelude.{◌≡◌, IfOk, OnOk};
 ghost use Rattle.tn_module.specs.Modules.{module_of, IsShort};
 ghost use Rattle.tn_module.specs.Validity.{IsValid};
+ghost use Rattle.tn_module.specs.Ranges.{IsInRange};
 ghost use Rattle.tn_module.specs.Faults.{IsFirstFault, OnFault};
 
 use crate::checks::check_places;
@@ -118,12 +119,13 @@ pub struct Module {
 impl Model for Module {
     ghost use Rattle.tn_module.specs.Modules.{Parts, module_of};
     ghost use Rattle.tn_module.specs.Validity.{IsValid};
+    ghost use Rattle.tn_module.specs.Ranges.{IsInRange};
 
     ghost Value = { Parts };
 
     ghost view = { λ m. module_of m.raw };
 
-    ghost invariant = { λ m. IsValid (module_of m.raw) };
+    ghost invariant = { λ m. IsValid (module_of m.raw) × IsInRange (module_of m.raw) };
 }
 
 impl Module {
@@ -133,12 +135,15 @@ impl Module {
     /// place, where imports stand before labels of code and these before labels of cells. The fault
     /// names the name, or the first one at fault of a difference; `WrongOperand` names nothing. The
     /// order of faults is this project's own.
+    #[tactic(auto, using(crate::proofs::OneFirst::one_first_fault))]
     pub fn check(alloc: Global, raw: RawModule) -> Result<Module, CheckFault>
         requires { IsShort (module_of raw) }
         ensures parts { IfOk result (λ m. m ≡ module_of raw) }
         ensures valid { OnOk result (IsValid (module_of raw)) }
+        ensures ranges { OnOk result (IsInRange (module_of raw)) }
         ensures fault { OnFault result (IsFirstFault (module_of raw)) }
         ensures accepted { OnFault result (λ _. ¬ IsValid (module_of raw)) }
+        ensures one { (f : _) → (g : _) → IsFirstFault (module_of raw) f → IsFirstFault (module_of raw) g → f ≡ g }
     {
         check_places(alloc, &raw)?;
         Ok(Module { raw })
@@ -148,6 +153,7 @@ impl Module {
     pub fn raw(&self) -> &RawModule
         ensures parts { module_of result.now ≡ self.now }
         ensures valid { IsValid self.now }
+        ensures ranges { IsInRange self.now }
     {
         &self.raw
     }

@@ -1,14 +1,17 @@
 ghost use Rattle.std.specs.Prelude.{◌≡◌, ℕ, ◌+◌, ◌*◌, ◌<◌, ◌≤◌, ◌^◌, List, [], ◌∷◌, ◌++◌, map, length, IfOk, OnOk};
 ghost use Rattle.std.specs.List.{filter_map};
 ghost use Rattle.tn_module.specs.Modules.{module_of, IsShort};
-ghost use Rattle.tn_module.specs.Names.{is_among, imported_code, imported_cell, code_label, cell_label, import_names, code_labels, cell_labels, defined_names, code_names, cell_names, labels, misaligned, misaligned_label, misaligned_from, end_of};
+ghost use Rattle.tn_module.specs.Names.{is_among, imported_code, imported_cell, code_label};
+ghost use Rattle.tn_module.specs.Names.{cell_label, import_names, code_labels, cell_labels, defined_names};
+ghost use Rattle.tn_module.specs.Names.{code_names, cell_names, labels, misaligned, misaligned_label, misaligned_from, end_of};
+ghost use Rattle.tn_module.specs.Ranges.{IsName};
 ghost use Rattle.tn_module.specs.Faults.{known};
-ghost use Rattle.tn_module.specs.Sets.{HaveSameNames, known_by};
+ghost use Rattle.tn_module.specs.Inner.Sets.{HaveSameNames, known_by};
 
 use crate::modules::{Cell, Import, Item, Kind, NoMemory, RawModule};
 use indexmap::IndexSet;
 use std::alloc::{AllocError, Global};
-use tn_text::Name;
+use tn_text::{Name, is_name};
 
 /// The names of a module.
 #[derive(Drop)]
@@ -98,11 +101,21 @@ pub(crate) fn has(set: &IndexSet<Name>, name: &Name) -> bool
 
 /// Puts the name into the set, and answers whether it was there.
 pub(crate) fn enter(set: &mut IndexSet<Name>, name: &Name) -> Result<bool, NoMemory>
+    ensures name { IsName name.now }
     ensures was { IfOk result (λ was. was ≡ is_among set.old.keys name.now) }
     ensures entered { OnOk result (HaveSameNames set.new.keys (set.old.keys ++ name.now ∷ [])) }
 {
-    let new = set.insert(*name)?;
+    let new = set.insert(copied(name))?;
     Ok(!new)
+}
+
+/// An equal name.
+pub(crate) fn copied(name: &Name) -> Name
+    ensures copy { result ≡ name.now }
+    ensures name { IsName name.now }
+{
+    prove!(is_name(name.bytes()));
+    *name
 }
 
 /// The set of these names.

@@ -7,7 +7,9 @@ use Rattle.tn_asm.proofs.flat_sources.read_all.Given as goal
 
 -- reading what is left gives what reading the text gives, and each line took a byte at least
 abbrev pub invariant-loop-line : goal.invariant-loop-line
-invariant-loop-line l = ReadsOn (token_step flat_step) Ok (map instruction_of l.instructions.items) l.number l.rest (flat_read l.text) × (l.number + length l.rest ≤ length l.text)
+invariant-loop-line l =
+    ReadsOn (token_step flat_step) Ok (map instruction_of l.instructions.items) l.number l.rest (flat_read l.text)
+    × (l.number + length l.rest ≤ length l.text)
 
 abbrev pub decreases-loop-line : goal.decreases-loop-line
 decreases-loop-line l = length l.rest

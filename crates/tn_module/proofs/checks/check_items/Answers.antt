@@ -2,21 +2,52 @@ use Rattle.std.proofs.Common.{◌≡◌, ◌<◌, ◌≤◌, ◌∙◌, length, 
 use Rattle.tn_module.specs.declared.faults.Place.TheVariants as place
 use Rattle.tn_module.specs.Modules.{module_of}
 use Rattle.tn_module.specs.Names.{import_names}
-use Rattle.tn_module.specs.Sets.{known_by}
-use Rattle.tn_module.proofs.Places.{at_item, items_grown, items_sound, first_in}
+use Rattle.tn_module.specs.Inner.Sets.{known_by}
+use Rattle.tn_module.proofs.Places.{at_item, items_grown, items_sound, first_in, all-grown, all-seen}
+use Rattle.tn_module.specs.Ranges.{IsItem}
 use Rattle.tn_module.proofs.checks.check_items.Goals as goal
 
 pub returns-in-Some-clause-fault : goal.returns-in-Some-clause-fault
 returns-in-Some-clause-fault c =
     first_in place.Item (module_of c.args.raw.now) c.loop-i.i c.in-Some.cause c.fault_at.result c.fault_at.ensures
-    (at_item (module_of c.args.raw.now) c.loop-i.seen.keys c.loop-i.i c.in_ok-cause.field-0 (known_by c.args.names.now) c.requires.names c.item-item.result (subst (λ l. c.loop-i.i < length l) c.deref-item-items.ensures.value c.loop-i-test.true) (subst (λ l. c.item-item.result ≡ get_or l c.loop-i.i c.item-item.result) c.deref-item-items.ensures.value c.item-item.is) c.loop-i.invariant.seen c.in_ok-cause.ensures.cause ∙ c.in-Some.is)
+    (at_item (module_of c.args.raw.now) c.loop-i.seen.keys c.loop-i.i c.in_ok-cause.field-0
+    (known_by c.args.names.now) c.requires.names c.item-item.result
+    (subst (λ l. c.loop-i.i < length l) c.deref-item-items.ensures.value c.loop-i-test.true)
+    (subst (λ l. c.item-item.result
+    ≡ get_or l c.loop-i.i c.item-item.result) c.deref-item-items.ensures.value c.item-item.is) c.loop-i.invariant.seen
+    c.in_ok-cause.ensures.cause ∙ c.in-Some.is)
     c.loop-i.invariant.sound
 
 pub loop-i-preserved : goal.loop-i-preserved
 loop-i-preserved c = record {
-  seen = items_grown (import_names c.args.raw.now.imports.items) c.loop-i.seen.keys c.item_cause.new.seen.keys c.args.raw.now.items.items c.loop-i.i c.item-item.result (subst (λ l. c.loop-i.i < length l) c.deref-item-items.ensures.value c.loop-i-test.true) (subst (λ l. c.item-item.result ≡ get_or l c.loop-i.i c.item-item.result) c.deref-item-items.ensures.value c.item-item.is) c.loop-i.invariant.seen c.in_ok-cause.ensures.seen;
-  sound = below_more _ _ c.loop-i.invariant.sound (at_item (module_of c.args.raw.now) c.loop-i.seen.keys c.loop-i.i c.in_ok-cause.field-0 (known_by c.args.names.now) c.requires.names c.item-item.result (subst (λ l. c.loop-i.i < length l) c.deref-item-items.ensures.value c.loop-i-test.true) (subst (λ l. c.item-item.result ≡ get_or l c.loop-i.i c.item-item.result) c.deref-item-items.ensures.value c.item-item.is) c.loop-i.invariant.seen c.in_ok-cause.ensures.cause ∙ c.in_default.is);
+  seen =
+      items_grown
+      (import_names c.args.raw.now.imports.items) c.loop-i.seen.keys c.item_cause.new.seen.keys c.args.raw.now.items.items
+      c.loop-i.i c.item-item.result (subst
+      (λ l. c.loop-i.i < length l) c.deref-item-items.ensures.value c.loop-i-test.true) (subst
+      (λ l. c.item-item.result ≡ get_or l c.loop-i.i c.item-item.result) c.deref-item-items.ensures.value c.item-item.is)
+      c.loop-i.invariant.seen c.in_ok-cause.ensures.seen;
+  sound =
+      below_more _ _ c.loop-i.invariant.sound (at_item (module_of c.args.raw.now) c.loop-i.seen.keys c.loop-i.i c.in_ok-cause.field-0
+      (known_by c.args.names.now) c.requires.names c.item-item.result
+      (subst (λ l. c.loop-i.i < length l) c.deref-item-items.ensures.value c.loop-i-test.true)
+      (subst (λ l. c.item-item.result
+      ≡ get_or l c.loop-i.i c.item-item.result) c.deref-item-items.ensures.value c.item-item.is) c.loop-i.invariant.seen
+      c.in_ok-cause.ensures.cause ∙ c.in_default.is);
+  ranges =
+      all-grown IsItem c.args.raw.now.items.items c.loop-i.i c.item-item.result
+      (subst (λ l. c.loop-i.i < length l) c.deref-item-items.ensures.value c.loop-i-test.true)
+      (subst (λ l. c.item-item.result
+      ≡ get_or l c.loop-i.i c.item-item.result) c.deref-item-items.ensures.value c.item-item.is) c.loop-i.invariant.ranges
+      c.item_cause.ensures.range;
 }
 
 pub returns-clause-sound : goal.returns-clause-sound
-returns-clause-sound c = items_sound (module_of c.args.raw.now) c.loop-i.i (subst (λ l. length l ≤ c.loop-i.i) c.deref-item-items.ensures.value c.loop-i-test.false) c.loop-i.invariant.sound
+returns-clause-sound c =
+    items_sound (module_of c.args.raw.now) c.loop-i.i
+    (subst (λ l. length l ≤ c.loop-i.i) c.deref-item-items.ensures.value c.loop-i-test.false) c.loop-i.invariant.sound
+
+pub returns-clause-ranges : goal.returns-clause-ranges
+returns-clause-ranges c =
+    all-seen IsItem c.args.raw.now.items.items c.loop-i.i
+    (subst (λ l. length l ≤ c.loop-i.i) c.deref-item-items.ensures.value c.loop-i-test.false) c.loop-i.invariant.ranges

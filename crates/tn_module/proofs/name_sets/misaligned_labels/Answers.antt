@@ -8,10 +8,14 @@ use Rattle.tn_module.proofs.name_sets.misaligned_labels.Goals.{in-Some+in_ok-pus
 
 pub loop-cell-preserved : goal.loop-cell-preserved
 loop-cell-preserved c = (
-  one_more c.args.cells.now c.loop-cell.names.items c.match-misaligned_label.names.items (misaligned_from 0 c.args.cells.now) c.loop-cell.at c.end_of-at.result c.loop-cell.cell-index c.cell-item.result c.loop-cell-test.true c.cell-item.is
+  one_more c.args.cells.now c.loop-cell.names.items c.match-misaligned_label.names.items
+      (misaligned_from 0 c.args.cells.now) c.loop-cell.at c.end_of-at.result c.loop-cell.cell-index c.cell-item.result
+      c.loop-cell-test.true c.cell-item.is
       (elim c.match-misaligned_label.branch [
-        | in-Some+in_ok-push w ↦ ap (λ v. v.items) w.names-is ∙ w.in_ok-push.ensures.items ∙ ap (λ o. c.loop-cell.names.items ++ option_to_list o) w.in-Some.ensures
-        | in_default w ↦ ap (λ v. v.items) w.names-is ∙ sym (append-nil c.loop-cell.names.items) ∙ ap (λ o. c.loop-cell.names.items ++ option_to_list o) w.in_default.ensures
+        | in-Some+in_ok-push w ↦ ap (λ v. v.items) w.names-is ∙ w.in_ok-push.ensures.items
+            ∙ ap (λ o. c.loop-cell.names.items ++ option_to_list o) w.in-Some.ensures
+        | in_default w ↦ ap (λ v. v.items) w.names-is ∙ sym (append-nil c.loop-cell.names.items)
+            ∙ ap (λ o. c.loop-cell.names.items ++ option_to_list o) w.in_default.ensures
       ])
       c.end_of-at.ensures.value c.loop-cell.invariant.0,
   omega (arith, c.loop-cell.invariant.1, c.end_of-at.ensures.near),
@@ -21,5 +25,6 @@ pub returns : goal.returns
 returns c =
     sym (append-nil c.loop-cell.names.items)
     ∙ ap (λ l. c.loop-cell.names.items ++ l) (sym (none_left c.loop-cell.at))
-    ∙ ap (λ l. c.loop-cell.names.items ++ misaligned_from c.loop-cell.at l) (sym (drop_all c.loop-cell.cell-index c.args.cells.now c.loop-cell-test.false))
+    ∙ ap (λ l. c.loop-cell.names.items ++ misaligned_from c.loop-cell.at l)
+    (sym (drop_all c.loop-cell.cell-index c.args.cells.now c.loop-cell-test.false))
     ∙ c.loop-cell.invariant.0

@@ -1,5 +1,5 @@
 use Rattle.std.proofs.Common.{◌++◌, take}
-use Rattle.tn_module.specs.Sets.{HaveSameNames}
+use Rattle.tn_module.specs.Inner.Sets.{HaveSameNames}
 use Rattle.tn_module.proofs.name_sets.with_names.Given as goal
 
 abbrev pub invariant-loop-name : goal.invariant-loop-name

@@ -13,7 +13,18 @@ pub record HaveSameNames (those these : List (List ℕ)) : Type 0 where
 
 -- what a module's sets say of a name
 abbrev pub known_by : NameSets → Known
-known_by sets = record { defined = is_among sets.defined.keys; code = is_among sets.code.keys; cell = is_among sets.cells.keys; label = is_among sets.labels.keys; misaligned = is_among sets.misaligned.keys }
+known_by sets =
+    record {
+      defined = is_among sets.defined.keys;
+      code = is_among sets.code.keys;
+      cell = is_among sets.cells.keys;
+      label = is_among sets.labels.keys;
+      misaligned = is_among sets.misaligned.keys;
+    }
+
+-- nothing is wrong anywhere
+abbrev pub IsSound : Parts → Type 0
+IsSound m = (p : Place) → cause_at m p ≡ None
 
 -- nothing is wrong at the places of one list
 abbrev pub AreSound : (ℕ → Place) → Parts → Type 0
