@@ -16,7 +16,7 @@ use Rattle.tn_isa.specs.declared.operations.Op.TheVariants.{Wcnt, Shr, Shl, Mint
 use Rattle.tn_isa.specs.declared.operations.Op.TheVariants.{Clrhalterr, Sethalterr, Dup}
 use Rattle.tn_isa.specs.Operations.{operation_with}
 use Rattle.tn_alu.specs.declared.answers.Answer.{Answer}
-use Rattle.tn_alu.specs.Words.{signed}
+use Rattle.tn_alu.specs.SignedWords.{signed}
 use Rattle.tn_alu.specs.Checked.{checked}
 use Rattle.tn_alu.specs.Divisions.{quotient, remainder}
 use Rattle.tn_alu.specs.Longs.{low_word, high_word, long_product, long_sum, low_difference, borrow_of}
