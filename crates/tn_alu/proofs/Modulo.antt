@@ -3,7 +3,7 @@ use Rattle.std.proofs.Common.{◌≡◌, ℕ, ◌+◌, ◌-◌, ◌*◌, ◌%◌
 use Rattle.std.specs.Prelude.{unsigned_abs}
 use Rattle.std.specs.Int.{w32, cast_unsigned, int_wrap}
 use Rattle.std.proofs.lemmas.Int.{ints, int_rem_euclid_is, of_z-to_z, wrapping_add-bits, wrapping_sub-bits, wrapping_mul-bits}
-use Rattle.tn_alu.specs.Words.{signed, word_of}
+use Rattle.tn_alu.specs.SignedWords.{signed, word_of}
 
 -- a difference, where the number that is taken away is no greater than b and k borrowed words
 pub word_of-difference : (b taken k : ℕ) → taken ≤ b + k * 2 ^ 32 → word_of (pos b -ℤ pos taken) ≡ (b + k * 2 ^ 32 - taken) % 2 ^ 32

@@ -2,7 +2,7 @@
 use Rattle.std.proofs.Common.{◌≡◌, ℕ, ◌+◌, ◌-◌, ◌/◌, ◌%◌, ◌^◌, ◌<◌, ◌≤◌, false, Some, pos, ◌+ℤ◌, ◌-ℤ◌, arith}
 use Rattle.std.proofs.lemmas.Int.{ints}
 use Rattle.std.proofs.lemmas.Bool.Decides.{nat_tests}
-use Rattle.tn_alu.specs.Words.{signed}
+use Rattle.tn_alu.specs.SignedWords.{signed}
 use Rattle.tn_alu.specs.Checked.{checked}
 use Rattle.tn_alu.specs.Divisions.{quotient, remainder}
 

@@ -1,7 +1,7 @@
 -- Division of signed words.
 use Rattle.std.specs.Prelude.{ℕ, ℤ, ◌==◌, ◌||◌, ◌&&◌, Bool, true, false, if◌then◌else◌, Some, None, int_div, int_rem}
 use Rattle.tn_alu.specs.declared.answers.Answer.{Answer}
-use Rattle.tn_alu.specs.Words.{signed, word_of}
+use Rattle.tn_alu.specs.SignedWords.{signed, word_of}
 
 -- no signed word is the quotient: the divisor is 0, or MostNeg is divided by -1
 abbrev pub has_no_quotient : ℕ → ℕ → Bool

@@ -1,4 +1,4 @@
-pub mod Words
+pub mod SignedWords
 pub mod Checked
 pub mod Divisions
 pub mod Longs

@@ -1,6 +1,6 @@
 -- Arithmetic on numbers of two words.
 use Rattle.std.specs.Prelude.{ℕ, ◌+◌, ◌*◌, ◌/◌, ◌%◌, ◌^◌, pos, ◌-ℤ◌, nat_lt, if◌then◌else◌}
-use Rattle.tn_alu.specs.Words.{word_of}
+use Rattle.tn_alu.specs.SignedWords.{word_of}
 
 -- the low word and the high word of a number
 abbrev pub low_word : ℕ → ℕ

@@ -1,5 +1,5 @@
 ghost use Rattle.std.specs.Prelude.{◌≡◌, ◌+ℤ◌, ◌-ℤ◌, ◌*ℤ◌, ◌≤ℤ◌, neg_ℤ, pos};
-ghost use Rattle.tn_alu.specs.Words.{signed, word_of};
+ghost use Rattle.tn_alu.specs.SignedWords.{signed, word_of};
 ghost use Rattle.tn_alu.specs.Checked.{checked};
 
 use crate::answers::Answer;

@@ -1,5 +1,5 @@
 ghost use Rattle.std.specs.Prelude.{◌≡◌, false};
-ghost use Rattle.tn_alu.specs.Words.{word_of};
+ghost use Rattle.tn_alu.specs.SignedWords.{word_of};
 ghost use Rattle.tn_alu.specs.Divisions.{has_no_quotient, quotient, remainder};
 
 use crate::answers::Answer;
