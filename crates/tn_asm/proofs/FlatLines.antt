@@ -15,7 +15,7 @@ use Rattle.tn_text.specs.Faults.{bare}
 use Rattle.tn_text.specs.Lines.{is_ascii_line, tokens}
 use Rattle.tn_text.specs.Numbers.{number_of}
 use Rattle.tn_text.specs.Reading.{said, token_step}
-use Rattle.tn_asm.proofs.LineSteps.{token_step-bytes, token_step-said}
+use Rattle.tn_text.proofs.LineSteps.{token_step-bytes, token_step-said}
 use Rattle.tn_asm.specs.FlatSources.{Says, LineSays, is_shaped, has_number, line_cause}
 use Rattle.tn_asm.specs.FlatReading.{instruction_said, flat_step}
 

@@ -7,8 +7,8 @@ use Rattle.tn_isa.specs.declared.functions.Fun.{Fun}
 use Rattle.tn_text.specs.declared.faults.Cause.{Cause}
 use Rattle.tn_text.specs.declared.faults.Fault.{Fault}
 use Rattle.tn_text.specs.Faults.{fault_at}
-use Rattle.tn_text.specs.Reading.{result_then, placed, line_tokens, token_step, ReadsOn}
-use Rattle.tn_text.proofs.ReadingLoops.{reads-end, said-nothing, said-something, tokens-good, tokens-bad}
+use Rattle.tn_text.specs.Reading.{result_then, placed, line_tokens, token_step}
+use Rattle.tn_text.proofs.ReadingLoops.{ReadsOn, reads-end, said-nothing, said-something, tokens-good, tokens-bad}
 use Rattle.tn_asm.specs.FlatReading.{instruction_said, flat_step}
 
 module _ (s : List (Fun × ℤ)) (n : ℕ) (rest : List ℕ) (whole : Result (List (Fun × ℤ)) Fault) (so_far : ReadsOn (token_step flat_step) Ok s n rest whole) where

@@ -1,4 +1,3 @@
-pub mod LineSteps
 pub mod FlatLines
 pub mod FlatLoop
 pub mod FlatLaws

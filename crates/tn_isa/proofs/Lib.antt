@@ -1,3 +1,5 @@
+pub mod FunctionCodes
+pub mod CodedFunctions
 pub mod Finding
 pub mod OperationCodes
 pub mod Naming

@@ -8,13 +8,13 @@ use Rattle.std.proofs.lemmas.Slice.Eq.{bytes_eq-Decides}
 use Rattle.std.proofs.lemmas.List.Sums.{AllPass-from_list_all}
 use Rattle.std.proofs.lemmas.List.Elements.{All-contains, All-weaker}
 use Rattle.tn_isa.specs.declared.functions.Fun.{Fun}
-use Rattle.tn_isa.specs.declared.functions.Fun.TheVariants.{J, Ldlp, Pfix, Ldnl, Ldc, Ldnlp, Nfix, Ldl, Adc, Call, Cj, Ajw, Eqc, Stl, Stnl, Opr}
 use Rattle.tn_isa.specs.declared.mnemonics.Mnemonic.{Mnemonic}
 use Rattle.tn_isa.specs.declared.mnemonics.Mnemonic.TheVariants.{Direct, Plain}
 use Rattle.tn_isa.specs.Functions.{code_of, function_at}
 use Rattle.tn_isa.specs.Operations.{operation_code}
 use Rattle.tn_isa.specs.Mnemonics.{mnemonics, name_of, mnemonic_named}
 use Rattle.tn_isa.proofs.Finding.{found-find, none-find}
+use Rattle.tn_isa.proofs.FunctionCodes.{function_at-code_of}
 use Rattle.tn_isa.proofs.OperationCodes.{same_operation}
 
 -- a word that names an instruction is its name
@@ -39,25 +39,6 @@ none-named word =
     named : (o : Option Mnemonic) → IfNone o (All (λ m. bytes_eq (name_of m) word ≡ false) mnemonics) → IfNone o (All (λ m. name_of m ≢ word) mnemonics)
     named None h = All-weaker (λ m. bytes_eq (name_of m) word ≡ false) (λ m. name_of m ≢ word) other mnemonics h
     named (Some m) h = tt
-
--- a function's code names it
-pub function_at-code_of : (f : Fun) → function_at (code_of f) ≡ f
-function_at-code_of J = refl
-function_at-code_of Ldlp = refl
-function_at-code_of Pfix = refl
-function_at-code_of Ldnl = refl
-function_at-code_of Ldc = refl
-function_at-code_of Ldnlp = refl
-function_at-code_of Nfix = refl
-function_at-code_of Ldl = refl
-function_at-code_of Adc = refl
-function_at-code_of Call = refl
-function_at-code_of Cj = refl
-function_at-code_of Ajw = refl
-function_at-code_of Eqc = refl
-function_at-code_of Stl = refl
-function_at-code_of Stnl = refl
-function_at-code_of Opr = refl
 
 -- no two functions have one code
 pub same_function : (f g : Fun) → code_of f ≡ code_of g → f ≡ g

@@ -1,3 +1,4 @@
 pub mod Functions
 pub mod Operations
 pub mod Mnemonics
+pub mod OperandRegister

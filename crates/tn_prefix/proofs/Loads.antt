@@ -5,8 +5,8 @@ use Rattle.std.proofs.lemmas.List.{take-append-drop, take_more}
 use Rattle.std.proofs.lemmas.List.Sums.{fold-append}
 use Rattle.std.proofs.lemmas.List.Elements.{All-head, All-tail, All-more}
 use Rattle.tn_isa.specs.declared.functions.Fun.{Fun}
-use Rattle.tn_prefix.specs.Coding.{is_prefix, IsCoded}
-use Rattle.tn_prefix.specs.Operand.{IsPrefix, function_of, loaded, shifted, operand_after, register_after, behind_one, loads_from, loads, LoadsAll}
+use Rattle.tn_isa.specs.OperandRegister.{is_prefix, IsCoded, IsPrefix, function_of, loaded, shifted, operand_after}
+use Rattle.tn_prefix.specs.Operand.{register_after, behind_one, loads_from, loads, LoadsAll}
 use Rattle.tn_prefix.proofs.Cases.{same_found}
 
 -- a prefix byte is read and changes the register
@@ -36,12 +36,12 @@ loads_from-prefixes register (byte ∷ prefixes) all =
     ∙ ap (option_map behind_one) (loads_from-prefixes (operand_after register byte) prefixes (All-tail IsPrefix byte prefixes all))
 
 -- one more prefix byte of a list is read
-pub register_after_more : (bytes : List ℕ) (i register : ℕ) (f : Fun) (next : ℕ) → i < length bytes → register ≡ register_after 0 (take i bytes) → All IsPrefix (take i bytes) → function_of (get_or bytes i 0) ≡ f → is_prefix f ≡ true → next ≡ shifted f (loaded register (get_or bytes i 0)) → (next ≡ register_after 0 (take (i + 1) bytes)) × All IsPrefix (take (i + 1) bytes)
-register_after_more bytes i register f next h before all names prefix left =
+pub register_after_more : (bytes : List ℕ) (i register : ℕ) → i < length bytes → register ≡ register_after 0 (take i bytes) → All IsPrefix (take i bytes) → IsPrefix (get_or bytes i 0)
+    → (operand_after register (get_or bytes i 0) ≡ register_after 0 (take (i + 1) bytes)) × All IsPrefix (take (i + 1) bytes)
+register_after_more bytes i register h before all prefix =
     let byte = get_or bytes i 0 in
     let after : register_after 0 (take (i + 1) bytes) ≡ operand_after (register_after 0 (take i bytes)) byte = ap (register_after 0) (take_more bytes i 0 h) ∙ fold-append operand_after 0 (take i bytes) (byte ∷ []) in
-    let same : operand_after (register_after 0 (take i bytes)) byte ≡ next = ap (λ r. operand_after r byte) (sym before) ∙ (ap (λ g. shifted g (loaded register byte)) names ∙ sym left) in
-    (sym (after ∙ same), All-more IsPrefix bytes i 0 h all (ap is_prefix names ∙ prefix))
+    (sym (after ∙ ap (λ r. operand_after r byte) (sym before)), All-more IsPrefix bytes i 0 h all prefix)
 
 -- bytes that load an operand do so whatever follows them
 pub loads-LoadsAll : {bytes : List ℕ} {f : Fun} {operand : ℕ} → LoadsAll bytes f operand → (rest : List ℕ) → loads (bytes ++ rest) ≡ Some (f, operand, length bytes)

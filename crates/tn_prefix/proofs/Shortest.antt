@@ -8,8 +8,9 @@ use Rattle.std.proofs.lemmas.List.{append-nil}
 use Rattle.std.proofs.lemmas.Bool.{cases_Bool, lt-ltb}
 use Rattle.tn_isa.specs.declared.functions.Fun.{Fun}
 use Rattle.tn_isa.specs.declared.functions.Fun.TheVariants.{Pfix, Nfix}
-use Rattle.tn_prefix.specs.Coding.{is_prefix, coding_length}
-use Rattle.tn_prefix.specs.Operand.{function_of, loaded, shifted, operand_after, behind_one, loads_from, loads, LoadsAll, word_of}
+use Rattle.tn_isa.specs.OperandRegister.{is_prefix, function_of, loaded, shifted, operand_after}
+use Rattle.tn_prefix.specs.Coding.{coding_length}
+use Rattle.tn_prefix.specs.Operand.{behind_one, loads_from, loads, LoadsAll, word_of}
 use Rattle.tn_prefix.proofs.Cases.{by_lt, same_some, same_found}
 use Rattle.tn_prefix.proofs.Loads.{loads_from-prefix, loads_from-last, loads-LoadsAll}
 use Rattle.tn_prefix.proofs.Lengths.{coding_length-small, coding_length-least}

@@ -1,19 +1,9 @@
 -- The coding of an instruction: prefix bytes for what the operand needs beyond four bits, and
 -- then the function's own byte.
-use Rattle.std.specs.Prelude.{◌≡◌, ℕ, zero, suc, ◌+◌, ◌-◌, ◌*◌, ◌/◌, ◌%◌, ◌^◌, ℤ, pos, negsuc, Bool, true, false, List, [], ◌∷◌, ◌++◌, if◌then◌else◌, nat_lt, find, unwrap_or}
+use Rattle.std.specs.Prelude.{ℕ, zero, suc, ◌+◌, ◌-◌, ◌*◌, ◌/◌, ◌%◌, ◌^◌, ℤ, pos, negsuc, Bool, false, List, [], ◌∷◌, ◌++◌, if◌then◌else◌, nat_lt, find, unwrap_or}
 use Rattle.tn_isa.specs.Functions.{code_of}
 use Rattle.tn_isa.specs.declared.functions.Fun.{Fun}
 use Rattle.tn_isa.specs.declared.functions.Fun.TheVariants.{Pfix, Nfix}
-
--- whether a function's bytes make the operand of a later byte in place of executing
-abbrev pub is_prefix : Fun → Bool
-is_prefix Pfix = true
-is_prefix Nfix = true
-is_prefix _ = false
-
--- a function that executes, and so can be coded with an operand
-abbrev pub IsCoded : Fun → Type 0
-IsCoded f = is_prefix f ≡ false
 
 -- the byte of a function with the low four bits of an operand
 abbrev pub instruction : Fun → ℕ → ℕ

@@ -1,35 +1,9 @@
--- The operand register, and what bytes load.
-use Rattle.std.specs.Prelude.{◌≡◌, ℕ, ◌+◌, ◌-◌, ◌*◌, ◌/◌, ◌%◌, ◌^◌, ℤ, true, List, [], ◌∷◌, ◌++◌, All, Option, Some, None, if◌then◌else◌, fold}
+-- What bytes load.
+use Rattle.std.specs.Prelude.{◌≡◌, ℕ, ◌+◌, ℤ, List, [], ◌∷◌, ◌++◌, All, Option, Some, None, if◌then◌else◌, fold}
 use Rattle.std.specs.Option.{option_map}
 use Rattle.std.specs.Int.{cast_unsigned, w32}
-use Rattle.tn_isa.specs.Functions.{function_at}
 use Rattle.tn_isa.specs.declared.functions.Fun.{Fun}
-use Rattle.tn_isa.specs.declared.functions.Fun.TheVariants.{Pfix, Nfix}
-use Rattle.tn_prefix.specs.Coding.{is_prefix, IsCoded}
-
--- the function that a byte names
-abbrev pub function_of : ℕ → Fun
-function_of byte = function_at (byte / 16)
-
--- a byte of pfix or nfix
-abbrev pub IsPrefix : ℕ → Type 0
-IsPrefix byte = is_prefix (function_of byte) ≡ true
-
--- the register with its low four bits replaced by those of a byte: the operand that the byte's
--- function sees
-abbrev pub loaded : ℕ → ℕ → ℕ
-loaded register byte = (register / 16) * 16 + byte % 16
-
--- what a function that sees this operand leaves in the register: pfix shifts it left by four
--- bits, nfix complements it first, and no other function changes it before it executes
-abbrev pub shifted : Fun → ℕ → ℕ
-shifted Pfix operand = (operand * 16) % 2 ^ 32
-shifted Nfix operand = ((2 ^ 32 - 1 - operand) * 16) % 2 ^ 32
-shifted _ operand = operand
-
--- the register after one byte
-abbrev pub operand_after : ℕ → ℕ → ℕ
-operand_after register byte = shifted (function_of byte) (loaded register byte)
+use Rattle.tn_isa.specs.OperandRegister.{is_prefix, IsCoded, IsPrefix, function_of, loaded, operand_after}
 
 -- the register after bytes, one after the other
 abbrev pub register_after : ℕ → List ℕ → ℕ

@@ -1,7 +1,8 @@
 ghost use Rattle.std.specs.Prelude.{◌≡◌, ℕ, ◌+◌, ◌^◌, ◌<◌, ◌≤◌, List, ◌++◌, length, Some};
 ghost use Rattle.arrayvec.specs.ArrayVec.{array_vec_len};
 ghost use Rattle.tn_isa.specs.declared.functions.Fun.{Fun};
-ghost use Rattle.tn_prefix.specs.Coding.{IsCoded, instruction, unsigned_coding, coding, coding_length};
+ghost use Rattle.tn_isa.specs.OperandRegister.{IsCoded};
+ghost use Rattle.tn_prefix.specs.Coding.{instruction, unsigned_coding, coding, coding_length};
 ghost use Rattle.tn_prefix.specs.Sign.{operand_value, magnitude};
 ghost use Rattle.tn_prefix.specs.Operand.{loads, LoadsAll, word_of};
 

@@ -1,7 +1,8 @@
 ghost use Rattle.std.specs.Prelude.{◌≡◌, ◌↔◌, take, All, IsNone, IfSome};
-ghost use Rattle.tn_prefix.specs.Operand.{IsPrefix, loaded, loads, LoadsAll};
+ghost use Rattle.tn_isa.specs.OperandRegister.{IsPrefix};
+ghost use Rattle.tn_prefix.specs.Operand.{loads, LoadsAll};
 
-use tn_isa::{Fun, fun_of};
+use tn_isa::{Fun, fun_of, is_prefix, loaded, operand_after};
 
 /// The first instruction that bytes hold: its function, which is neither `pfix` nor `nfix`, the
 /// operand that the bytes up to it load, and how many bytes these are, its own among them.
@@ -13,19 +14,11 @@ pub fn decode(bytes: &[u8]) -> Option<(Fun, u32, usize)>
 {
     let mut register = 0;
     for (index, &byte) in bytes.iter().enumerate() {
-        let operand = loaded(register, byte);
-        match fun_of(byte) {
-            Fun::Pfix => register = operand << 4,
-            Fun::Nfix => register = !operand << 4,
-            fun => return Some((fun, operand, index + 1)),
+        let fun = fun_of(byte);
+        if !is_prefix(fun) {
+            return Some((fun, loaded(register, byte), index + 1));
         }
+        register = operand_after(register, byte);
     }
     None
-}
-
-/// The register with its low four bits replaced by those of a byte.
-fn loaded(register: u32, byte: u8) -> u32
-    ensures { result ≡ loaded register byte }
-{
-    register / 16 * 16 + u32::from(byte % 16)
 }

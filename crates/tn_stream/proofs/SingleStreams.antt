@@ -7,7 +7,7 @@ use Rattle.tn_loader.specs.Secondary.{secondary_bytes}
 use Rattle.tn_loader.specs.Commands.{run_command, nop_command}
 use Rattle.tn_loader.proofs.CommandWords.{length-command_bytes}
 use Rattle.tn_loader.proofs.Tables.{length-primary_bytes, length-secondary_bytes}
-use Rattle.tn_stream.specs.Trees.{alone}
+use Rattle.tn_stream.specs.Branches.{alone}
 use Rattle.tn_stream.specs.Streams.{Site, wave, wave_below, loader, loads_of, stream}
 
 -- what a tree of one node gets

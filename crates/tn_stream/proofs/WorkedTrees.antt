@@ -4,8 +4,8 @@ use Rattle.std.proofs.Common.{◌≡◌, ℕ, [], ◌∷◌, length, take, drop,
 use Rattle.tn_loader.specs.Primary.{primary_bytes}
 use Rattle.tn_loader.specs.Secondary.{secondary_bytes}
 use Rattle.tn_loader.specs.Commands.{command_bytes}
-use Rattle.tn_stream.specs.Trees.{Tree}
-use Rattle.tn_stream.specs.Trees.Children.{none, child}
+use Rattle.tn_stream.specs.Branches.{Branch}
+use Rattle.tn_stream.specs.Branches.Children.{none, child}
 use Rattle.tn_stream.specs.Streams.{Site, wave, wave_below, stream}
 
 -- a processor that boots by a link
@@ -20,11 +20,11 @@ site k = record {
 }
 
 -- a root whose link 1 leads to link 2 of a child
-abbrev pair : Tree Site
+abbrev pair : Branch Site
 pair = record { root = site 0; below = child 1 (site 2) none none }
 
 -- a root whose link 1 leads to a child with a child of its own, and whose link 3 leads to another child
-abbrev ring : Tree Site
+abbrev ring : Branch Site
 ring = record { root = site 0; below = child 1 (site 3) (child 1 (site 3) none none) (child 3 (site 1) none none) }
 
 -- one processor gets 157 bytes

@@ -1,4 +1,4 @@
 pub mod Images
-pub mod Trees
+pub mod Branches
 pub mod Streams
 pub mod Emissions

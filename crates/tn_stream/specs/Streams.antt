@@ -1,4 +1,4 @@
--- The stream that loads a tree of processors and starts them.
+-- The stream that loads a branch of processors and starts them.
 use Rattle.std.specs.Prelude.{ℕ, List, [], ◌∷◌, ◌++◌, length}
 use Rattle.std.specs.List.{flat_map}
 use Rattle.tn_word.specs.Words.{bytes_of_word}
@@ -7,16 +7,16 @@ use Rattle.tn_loader.specs.Primary.{primary_bytes}
 use Rattle.tn_loader.specs.Secondary.{secondary_bytes}
 use Rattle.tn_loader.specs.Commands.{load_command, forward_command, run_command, nop_command}
 use Rattle.tn_stream.specs.Images.{SegmentBytes, ImageBytes}
-use Rattle.tn_stream.specs.Trees.{Children, Tree, alone}
-use Rattle.tn_stream.specs.Trees.Children.{none, child}
+use Rattle.tn_stream.specs.Branches.{Children, Branch, alone}
+use Rattle.tn_stream.specs.Branches.Children.{none, child}
 
 -- a processor to be loaded: the link that it boots by, and its image
 pub record Site : Type 0 where
   pub boot : ℕ
   pub image : ImageBytes
 
--- a tree of one processor
-abbrev pub one_processor : ℕ → ImageBytes → Tree Site
+-- a branch of one processor
+abbrev pub one_processor : ℕ → ImageBytes → Branch Site
 one_processor k image = alone (record { boot = k; image = image })
 
 -- bytes that go on by a link, behind the command to send so many
@@ -30,9 +30,9 @@ module _ {A : Type 0} (first last : A → List ℕ) where
   wave_below (child link here below others) =
       forwarded link (first here ++ wave_below below ++ last here) ++ wave_below others
 
-  -- what a tree gets: the first bytes of its root, what its children get, and the last bytes of its root
-  unfoldable pub wave : Tree A → List ℕ
-  wave tree = first tree.root ++ wave_below tree.below ++ last tree.root
+  -- what a branch gets: the first bytes of its root, what its children get, and the last bytes of its root
+  unfoldable pub wave : Branch A → List ℕ
+  wave branch = first branch.root ++ wave_below branch.below ++ last branch.root
 
 -- the loader for a boot by link k: the primary behind its length, and the secondary behind its own
 abbrev pub loader : ℕ → List ℕ
@@ -50,18 +50,30 @@ loads_of segments = flat_map load_of segments
 abbrev pub own_load : Site → List ℕ
 own_load site = loader site.boot ++ loads_of site.image.segments
 
--- the part that loads all processors of a tree
-abbrev pub load : Tree Site → List ℕ
-load tree = wave own_load (λ _. []) tree
+-- a wave that has no bytes of its own for a processor
+abbrev pub nothing : Site → List ℕ
+nothing site = []
+
+-- the command that ends a processor's sync part
+abbrev pub nop_of : Site → List ℕ
+nop_of site = nop_command
+
+-- the command that starts a processor
+abbrev pub run_of : Site → List ℕ
+run_of site = run_command site.image.entry site.image.wptr
+
+-- the part that loads all processors of a branch
+abbrev pub load_part : Branch Site → List ℕ
+load_part branch = wave own_load nothing branch
 
 -- the part that each takes when all before it are loaded, so that none starts before all are whole
-abbrev pub sync : Tree Site → List ℕ
-sync tree = wave (λ _. []) (λ _. nop_command) tree
+abbrev pub sync_part : Branch Site → List ℕ
+sync_part branch = wave nothing nop_of branch
 
 -- the part that starts all, a parent after its children
-abbrev pub start : Tree Site → List ℕ
-start tree = wave (λ _. []) (λ site. run_command site.image.entry site.image.wptr) tree
+abbrev pub start_part : Branch Site → List ℕ
+start_part branch = wave nothing run_of branch
 
 -- the whole stream
-unfoldable pub stream : Tree Site → List ℕ
-stream tree = load tree ++ sync tree ++ start tree
+unfoldable pub stream : Branch Site → List ℕ
+stream branch = load_part branch ++ sync_part branch ++ start_part branch

@@ -8,6 +8,3 @@ mod streams;
 pub use faults::StreamFault;
 pub use images::{Image, Segment};
 pub use streams::collect_one;
-
-#[cfg(test)]
-mod tests;

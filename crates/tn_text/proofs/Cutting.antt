@@ -1,5 +1,6 @@
 -- A text by its first line, and a line by its comment.
-use Rattle.std.proofs.Common.{◌≡◌, ℕ, ◌+◌, ◌-◌, ◌<◌, ◌≤◌, Bool, true, false, cond, List, [], ◌∷◌, length, take, drop, take_all, Option, Some, None, refl, sym, ap, ◌∙◌, ltb, arith}
+use Rattle.std.proofs.Common.{◌≡◌, ℕ, ◌+◌, ◌-◌, ◌<◌, ◌≤◌, Bool, true, false, cond, List, [], ◌∷◌, length, take, drop, take_all, Option}
+use Rattle.std.proofs.Common.{Some, None, refl, sym, ap, ◌∙◌, ltb, arith}
 use Rattle.std.specs.Bool.{◌==◌}
 use Rattle.std.specs.List.{All, onto_first, slice_split, position, position_or_len, before_first, after_first}
 use Rattle.std.specs.Str.Lines.{lines, lines_of_parts, strip_carriage_return}
@@ -14,7 +15,8 @@ module _ (p : ℕ → Bool) (xs : List ℕ) where
   pub found_at : (at : ℕ) → Some at ≡ position p xs → (position_or_len p xs ≡ at) × (at < length xs)
   found_at at e = by (ltb (position_or_len p xs) (length xs)) refl e
     where
-      by : (b : Bool) → ltb (position_or_len p xs) (length xs) ≡ b → Some at ≡ cond {A = Option ℕ} b (Some (position_or_len p xs)) None → (position_or_len p xs ≡ at) × (at < length xs)
+      by : (b : Bool) → ltb (position_or_len p xs) (length xs) ≡ b
+          → Some at ≡ cond {A = Option ℕ} b (Some (position_or_len p xs)) None → (position_or_len p xs ≡ at) × (at < length xs)
       by true t q =
           let same : position_or_len p xs ≡ at = cc in
           let here : position_or_len p xs < length xs = ltb-true (position_or_len p xs) (length xs) t in
@@ -25,7 +27,8 @@ module _ (p : ℕ → Bool) (xs : List ℕ) where
   pub found_none : None ≡ position p xs → length xs ≤ position_or_len p xs
   found_none e = by (ltb (position_or_len p xs) (length xs)) refl e
     where
-      by : (b : Bool) → ltb (position_or_len p xs) (length xs) ≡ b → None ≡ cond {A = Option ℕ} b (Some (position_or_len p xs)) None → length xs ≤ position_or_len p xs
+      by : (b : Bool) → ltb (position_or_len p xs) (length xs) ≡ b
+          → None ≡ cond {A = Option ℕ} b (Some (position_or_len p xs)) None → length xs ≤ position_or_len p xs
       by true t q = absurd cc
       by false t q = ltb-false (position_or_len p xs) (length xs) t
 
@@ -37,24 +40,31 @@ module _ (p : ℕ → Bool) (xs : List ℕ) where
   before_none e = sym (take_all (position_or_len p xs) xs (found_none e))
 
 -- a part at least stands behind a line feed
-more_parts : (line : List ℕ) (text : List ℕ) → lines_of_parts (line ∷ slice_split is_feed text) ≡ strip_carriage_return line ∷ lines_of_parts (slice_split is_feed text)
+more_parts : (line : List ℕ) (text : List ℕ)
+    → lines_of_parts (line ∷ slice_split is_feed text) ≡ strip_carriage_return line ∷ lines_of_parts (slice_split is_feed text)
 more_parts line [] = refl
 more_parts line (c ∷ cs) = at (is_feed c) (slice_split is_feed cs)
   where
-    onto : (parts : List (List ℕ)) → lines_of_parts (line ∷ onto_first c parts) ≡ strip_carriage_return line ∷ lines_of_parts (onto_first c parts)
+    onto : (parts : List (List ℕ)) → lines_of_parts (line ∷ onto_first c parts) ≡ strip_carriage_return line ∷ lines_of_parts
+        (onto_first c parts)
     onto [] = refl
     onto (part ∷ parts) = refl
 
-    at : (b : Bool) (parts : List (List ℕ)) → lines_of_parts (line ∷ cond b ([] ∷ parts) (onto_first c parts)) ≡ strip_carriage_return line ∷ lines_of_parts (cond b ([] ∷ parts) (onto_first c parts))
+    at : (b : Bool) (parts : List (List ℕ)) → lines_of_parts
+        (line ∷ cond b ([] ∷ parts) (onto_first c parts)) ≡ strip_carriage_return line ∷ lines_of_parts
+        (cond b ([] ∷ parts) (onto_first c parts))
     at true parts = refl
     at false parts = onto parts
 
 -- the lines of a text that has a line feed
-pub lines-feed : (text : List ℕ) (at : ℕ) → Some at ≡ position is_feed text → lines text ≡ strip_carriage_return (take at text) ∷ lines (drop (at + 1) text)
+pub lines-feed : (text : List ℕ) (at : ℕ) → Some at ≡ position is_feed text
+    → lines text ≡ strip_carriage_return (take at text) ∷ lines (drop (at + 1) text)
 lines-feed text at e =
     let here = found_at is_feed text at e in
     let inside : position_or_len is_feed text < length text = rw here.0 here.1 in
-    ap lines_of_parts (slice_split_first is_feed text 0 inside) ∙ (more_parts (before_first is_feed text) (after_first is_feed text) ∙ ap (λ k. strip_carriage_return (take k text) ∷ lines (drop (k + 1) text)) here.0)
+    ap lines_of_parts (slice_split_first is_feed text 0 inside)
+    ∙ (more_parts (before_first is_feed text) (after_first is_feed text)
+    ∙ ap (λ k. strip_carriage_return (take k text) ∷ lines (drop (k + 1) text)) here.0)
 
 -- a text without a line feed is one line, unless it is empty
 pub lines-last : (text : List ℕ) → None ≡ position is_feed text → (length text == 0) ≡ false → lines text ≡ text ∷ []

@@ -6,3 +6,6 @@ pub mod Cutting
 pub mod ReadingLoops
 pub mod LineBytes
 pub mod Results
+pub mod LineSteps
+pub mod Readers
+pub mod Firsts

@@ -13,7 +13,9 @@ use Rattle.tn_text.specs.Lines.{is_line_byte, is_ascii_line, is_blank, begins_co
 pub IsUtf8-line : (line : List ℕ) → is_ascii_line line ≡ true → IsUtf8 line
 unfolding is_ascii_line
 IsUtf8-line line h =
-    IsUtf8-from_ascii line (IsAscii-from_all line (All-weaker (λ c. is_line_byte c ≡ true) (λ c. c < 128) (λ c e. grind (arith, nat_tests)) line (AllPass-from_list_all is_line_byte line h)))
+    IsUtf8-from_ascii line (IsAscii-from_all line
+    (All-weaker (λ c. is_line_byte c ≡ true) (λ c. c < 128) (λ c e. grind (arith, nat_tests)) line
+    (AllPass-from_list_all is_line_byte line h)))
 
 both : (a b : Bool) → (a && b) ≡ true → (a ≡ true) × (b ≡ true)
 both true b h = (refl, h)
@@ -33,7 +35,8 @@ split p q (x ∷ xs) h = let b = both (p x) (list_all p xs) h in at (q x) (slice
     onto [] e h = rw e refl
     onto (part ∷ parts) e h = rw e h
 
-    at : (c : Bool) (parts : List (List ℕ)) → p x ≡ true → list_all (list_all p) parts ≡ true → list_all (list_all p) (cond c ([] ∷ parts) (onto_first x parts)) ≡ true
+    at : (c : Bool) (parts : List (List ℕ)) → p x ≡ true → list_all (list_all p) parts ≡ true
+        → list_all (list_all p) (cond c ([] ∷ parts) (onto_first x parts)) ≡ true
     at true parts e h = h
     at false parts e h = onto parts e h
 

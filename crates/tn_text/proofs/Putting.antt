@@ -1,9 +1,11 @@
 -- Pieces that are put one after the other.
-use Rattle.std.proofs.Common.{◌≡◌, ℕ, ◌+◌, ◌≤◌, inl, inr, List, [], ◌++◌, length, take, drop, Option, Some, None, Result, Ok, Err, IsErr, refl, sym, ap, subst, ◌∙◌, append_assoc, append-nil, arith}
+use Rattle.std.proofs.Common.{◌≡◌, ℕ, ◌+◌, ◌≤◌, inl, inr, List, [], ◌++◌, length, take, drop, Option, Some, None, Result, Ok, Err, IsErr}
+use Rattle.std.proofs.Common.{refl, sym, ap, subst, ◌∙◌, append_assoc, append-nil, arith}
 use Rattle.std.proofs.Math.Seq.{take-append-add, take-append_seam}
 use Rattle.std.proofs.lemmas.List.{take-append-drop}
 use Rattle.tn_text.specs.declared.puts.PutRefused.{PutRefused}
-use Rattle.tn_text.specs.Puts.{Rose, Taken, taken_then, Puts}
+use Rattle.tn_text.specs.Counts.{Rose}
+use Rattle.tn_text.specs.Puts.{Taken, taken_then, Puts}
 
 taken_both : (a b : List ℕ) (o : Option (List ℕ)) → taken_then b (taken_then a o) ≡ taken_then (a ++ b) o
 taken_both a b None = refl
@@ -26,7 +28,8 @@ pub Puts-as : {T : Type 0} {a b : List ℕ} {r : Result T PutRefused} {p q : Tak
 Puts-as {r} {p} {q} e h = subst (λ piece. Puts piece r p q) e h
 
 -- a piece and, behind it, another
-pub Puts-joined : {T U : Type 0} {a b : List ℕ} {x : T} {r : Result U PutRefused} {p q s : Taken} → Puts a (Ok x) p q → Puts b r q s → Puts (a ++ b) r p s
+pub Puts-joined : {T U : Type 0} {a b : List ℕ} {x : T} {r : Result U PutRefused} {p q s : Taken} → Puts a (Ok x) p q
+    → Puts b r q s → Puts (a ++ b) r p s
 Puts-joined {U} {a} {b} {r} {p} {q} {s} h k = at r k
   where
     at : (o : Result U PutRefused) → Puts b o q s → Puts (a ++ b) o p s
@@ -38,13 +41,18 @@ Puts-joined {U} {a} {b} {r} {p} {q} {s} h k = at r k
     }
     at (Err e) k = record {
       ok = tt;
-      err = (length a + k.err.0, k.err.1 ∙ ap (taken_then (take k.err.0 b)) h.ok ∙ taken_both a (take k.err.0 b) p.bytes ∙ ap (λ piece. taken_then piece p.bytes) (sym (take-append-add a b k.err.0)));
+      err = (
+        length a + k.err.0,
+        k.err.1 ∙ ap (taken_then (take k.err.0 b)) h.ok ∙ taken_both a (take k.err.0 b) p.bytes
+            ∙ ap (λ piece. taken_then piece p.bytes) (sym (take-append-add a b k.err.0)),
+      );
       refused = rose-since p.refusals q.refusals s.refusals h.count k.refused;
       count = omega (arith, h.count, k.count);
     }
 
 -- a refused piece, behind which nothing was put
-pub Puts-stopped : {T : Type 0} {a : List ℕ} {e : PutRefused} {p q : Taken} (b : List ℕ) → Puts {T = T} a (Err e) p q → Puts {T = T} (a ++ b) (Err e) p q
+pub Puts-stopped : {T : Type 0} {a : List ℕ} {e : PutRefused} {p q : Taken} (b : List ℕ) → Puts {T = T} a (Err e) p q
+    → Puts {T = T} (a ++ b) (Err e) p q
 Puts-stopped {a} {p} {q} b h = record {
   ok = tt;
   err = (length (take h.err.0 a), h.err.1 ∙ ap (λ piece. taken_then piece p.bytes) (sym (front h.err.0)));
@@ -53,10 +61,12 @@ Puts-stopped {a} {p} {q} b h = record {
 }
   where
     front : (k : ℕ) → take (length (take k a)) (a ++ b) ≡ take k a
-    front k = ap (λ all. take (length (take k a)) (all ++ b)) (sym (take-append-drop k a)) ∙ ap (take (length (take k a))) (append_assoc (take k a) (drop k a) b) ∙ take-append_seam (take k a) (drop k a ++ b)
+    front k = ap (λ all. take (length (take k a)) (all ++ b)) (sym (take-append-drop k a))
+        ∙ ap (take (length (take k a))) (append_assoc (take k a) (drop k a) b) ∙ take-append_seam (take k a) (drop k a ++ b)
 
 -- a refusal that is handed on
-pub Puts-refused : {T : Type 0} {a : List ℕ} {e : PutRefused} {r : Result T PutRefused} {p q : Taken} → IsErr r → Puts {T = T} a (Err e) p q → Puts a r p q
+pub Puts-refused : {T : Type 0} {a : List ℕ} {e : PutRefused} {r : Result T PutRefused} {p q : Taken} → IsErr r
+    → Puts {T = T} a (Err e) p q → Puts a r p q
 Puts-refused {T} {a} {r} {p} {q} is h = at r is
   where
     at : (o : Result T PutRefused) → IsErr o → Puts a o p q

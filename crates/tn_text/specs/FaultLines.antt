@@ -5,7 +5,7 @@ use Rattle.tn_text.specs.declared.faults.Region.{Region}
 use Rattle.tn_text.specs.declared.faults.Detail.{Detail}
 use Rattle.tn_text.specs.declared.faults.Detail.TheVariants.{Nothing, Named, Lacks, LinkEnd, One, Two}
 use Rattle.tn_text.specs.declared.faults.Fault.{Fault}
-use Rattle.tn_text.specs.Words.{word_text, spaced}
+use Rattle.tn_text.specs.WordTexts.{word_text, spaced}
 use Rattle.tn_text.specs.Faults.{fault_word, lack_word, part_word}
 
 -- a region's part, its first address and the address after its last

@@ -1,9 +1,12 @@
+pub mod Limits
+pub mod Counts
+pub mod Firsts
 pub mod Names
-pub mod HeldNames
+pub mod Inner
 pub mod FileNames
 pub mod Numbers
 pub mod Puts
-pub mod Words
+pub mod WordTexts
 pub mod Faults
 pub mod FaultLines
 pub mod Places

@@ -2,6 +2,7 @@
 use Rattle.std.specs.Prelude.{ℕ, Bool, false, ◌&&◌, ◌||◌, ◌==◌, nat_le, List, [], ◌∷◌, length}
 use Rattle.std.specs.List.{list_all}
 use Rattle.std.specs.Char.{is_ascii_alphabetic, is_ascii_alphanumeric}
+use Rattle.tn_text.specs.declared.limits.TheConstants.{NAME_LIMIT}
 
 -- what a name begins with: a letter or an underscore
 abbrev pub begins_name : ℕ → Bool
@@ -20,10 +21,6 @@ is_name_spelling (c ∷ cs) = begins_name c && list_all continues_name cs
 abbrev pub is_name_up_to : ℕ → List ℕ → Bool
 is_name_up_to limit bytes = is_name_spelling bytes && nat_le (length bytes) limit
 
--- the most bytes that a name has
-abbrev pub name_limit : ℕ
-name_limit = 64
-
 -- a name
 abbrev pub is_name : List ℕ → Bool
-is_name bytes = is_name_up_to name_limit bytes
+is_name bytes = is_name_up_to NAME_LIMIT bytes

@@ -1,5 +1,6 @@
 -- Numbers in texts, and the words that they stand for.
-use Rattle.std.specs.Prelude.{ℕ, ◌-◌, ◌%◌, ◌^◌, Bool, false, ◌&&◌, ◌||◌, ◌==◌, nat_lt, nat_le, List, [], ◌∷◌, length, Option, Some, None, option_and_then, if◌then◌else◌}
+use Rattle.std.specs.Prelude.{ℕ, ◌-◌, ◌%◌, ◌^◌, Bool, false, ◌&&◌, ◌||◌, ◌==◌, nat_lt, nat_le, List, [], ◌∷◌, length, Option, Some, None}
+use Rattle.std.specs.Prelude.{option_and_then, if◌then◌else◌}
 use Rattle.std.specs.List.{list_all}
 use Rattle.std.specs.Char.{is_ascii_digit, is_digit}
 use Rattle.std.specs.Str.Parse.{digits_value}
@@ -7,7 +8,8 @@ use Rattle.std.specs.Str.Parse.{digits_value}
 -- the value of one to so many digits of a radix
 unfoldable pub natural_of : ℕ → ℕ → List ℕ → Option ℕ
 natural_of radix most digits =
-    if nat_le 1 (length digits) && (nat_le (length digits) most && list_all (λ c. is_digit c radix) digits) then Some (digits_value radix digits) else None
+    if nat_le 1 (length digits) && (nat_le (length digits) most && list_all (λ c. is_digit c radix) digits) then Some
+    (digits_value radix digits) else None
 
 -- the words of n and of -n, where they are signed words
 abbrev pub positive : ℕ → Option ℕ
@@ -21,7 +23,8 @@ negative n = if nat_le n (2 ^ 31) then Some ((2 ^ 32 - n) % 2 ^ 32) else None
 unfoldable pub number_of : List ℕ → Option ℕ
 number_of [] = None
 number_of (c ∷ cs) =
-    if c == 35 then natural_of 16 8 cs else (if c == 45 then option_and_then negative (natural_of 10 10 cs) else option_and_then positive (natural_of 10 10 (c ∷ cs)))
+    if c == 35 then natural_of 16 8 cs else (if c == 45 then option_and_then negative
+    (natural_of 10 10 cs) else option_and_then positive (natural_of 10 10 (c ∷ cs)))
 
 -- a token that is taken for a number where a name may stand too
 abbrev pub begins_number : List ℕ → Bool

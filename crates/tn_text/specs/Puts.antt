@@ -1,10 +1,7 @@
 -- What a put promises.
-use Rattle.std.specs.Prelude.{◌≡◌, ℕ, ◌-◌, ◌^◌, ◌<◌, ◌≤◌, ◌⊎◌, List, ◌++◌, take, Option, option_map, Result, OnOk, OnErr}
+use Rattle.std.specs.Prelude.{◌≡◌, ℕ, ◌≤◌, List, ◌++◌, take, Option, option_map, Result, OnOk, OnErr}
 use Rattle.tn_text.specs.declared.puts.PutRefused.{PutRefused}
-
--- a count of refusals rose, or stands at the greatest value of 64 bits and can rise no more
-abbrev pub Rose : ℕ → ℕ → Type 0
-Rose before after = (before < after) ⊎ (after ≡ 2 ^ 64 - 1)
+use Rattle.tn_text.specs.Counts.{Rose}
 
 -- what contracts see of a sink: the bytes taken, where it tells them, and how often it refused
 pub record Taken : Type 0 where

@@ -44,7 +44,8 @@ pub record IsFirstBadLine {L S : Type 0} (step : S → L → Result S Cause) (s 
   pub placed : fault ≡ fault_at (length before + 1) cause
 
 -- the step refuses no line, and the fault is what is lacking at the end
-pub record IsLacking {L S A : Type 0} (step : S → L → Result S Cause) (finish : S → Result A Cause) (s : S) (ls : List L) (fault : Fault) : Type 0 where
+pub record IsLacking {L S A : Type 0} (step : S → L → Result S Cause) (finish : S → Result A Cause) (s : S) (ls : List L)
+    (fault : Fault) : Type 0 where
   pub state : S
   pub cause : Cause
   pub walks : Walks step s ls state
@@ -69,13 +70,15 @@ token_step step s line = result_then (line_tokens line) (said step s)
 abbrev pub read_text : {S A : Type 0} → (S → List (List ℕ) → Result S Cause) → (S → Result A Cause) → S → List ℕ → Result A Fault
 read_text step finish s text = read_lines (token_step step) finish s 0 (lines text)
 
--- In a loop: reading the rest of a text, before which n lines stand, from a state gives what reading
--- the whole text from its first state gives.
-abbrev pub ReadsOn : {S A : Type 0} → (S → List ℕ → Result S Cause) → (S → Result A Cause) → S → ℕ → List ℕ → Result A Fault → Type 0
-ReadsOn step finish s n rest whole = read_lines step finish s n (lines rest) ≡ whole
-
 -- a reader gives this answer, unless there is no memory
 abbrev pub Gives : {T A : Type 0} → (T → A) → Result T ReadFault → Result A Fault → Type 0
 Gives seen (Ok value) answer = Ok (seen value) ≡ answer
 Gives seen (Err (read.Fault fault)) answer = Err fault ≡ answer
 Gives seen (Err read.NoMemory) answer = ⊤
+
+-- what reading a text gives: exactly the values that the text stands for, and else its first fault
+pub record IsReading {A : Type 0} (StandsFor : A → Type 0) (IsFault : Fault → Type 0) (reading : Result A Fault) : Type 0 where
+  pub found : (value : A) → reading ≡ Ok value → StandsFor value
+  pub only : (value : A) → StandsFor value → reading ≡ Ok value
+  pub fault : (fault : Fault) → reading ≡ Err fault → IsFault fault
+  pub refused : (fault : Fault) → IsFault fault → reading ≡ Err fault

@@ -1,7 +1,7 @@
 ghost use Rattle.std.specs.Prelude.{◌≡◌, ◌++◌};
 ghost use Rattle.std.specs.Fmt.{decimal};
 ghost use Rattle.tn_text.specs.Puts.{Puts};
-ghost use Rattle.tn_text.specs.Words.{spaced};
+ghost use Rattle.tn_text.specs.WordTexts.{spaced};
 ghost use Rattle.tn_text.specs.Faults.{fault_word, lack_word, part_word};
 ghost use Rattle.tn_text.specs.FaultLines.{region_text, detail_text, place_text, fault_line};
 

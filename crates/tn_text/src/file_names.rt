@@ -1,17 +1,15 @@
 ghost use Rattle.std.specs.Prelude.{◌≡◌, Some, None, IsTrue, if◌then◌else◌};
 ghost use Rattle.tn_text.specs.FileNames.{is_file_name};
 
+use crate::limits::FILE_NAME_LIMIT;
 use arrayvec::ArrayString;
 use std::fmt;
 use std::marker::Model;
 
-/// The most bytes that a file's name has.
-pub const FILE_NAME_LIMIT: usize = 255;
-
 /// The name of a file: a text of 1 to 255 bytes. It takes no memory of an allocator.
 #[derive(Drop)]
 pub struct FileName {
-    text: ArrayString<255>,
+    text: ArrayString<FILE_NAME_LIMIT>,
 }
 
 impl Model for FileName {

@@ -5,15 +5,13 @@ ghost use Rattle.std.specs.Cmp.Rules.{hashing};
 ghost use Rattle.std.specs.Hash as fed;
 ghost use Rattle.std.proofs.Common.{rules};
 ghost use Rattle.std.specs.List.{list_all};
-ghost use Rattle.tn_text.specs.HeldNames.{cells_of};
-ghost use Rattle.tn_text.specs.Names.{begins_name, continues_name, is_name_spelling, is_name_up_to, name_limit, is_name};
+ghost use Rattle.tn_text.specs.Inner.HeldNames.{cells_of};
+ghost use Rattle.tn_text.specs.Names.{begins_name, continues_name, is_name_spelling, is_name_up_to, is_name};
 
+use crate::limits::NAME_LIMIT;
 use std::fmt;
 use std::hash::{Hash, Hasher};
 use std::marker::Model;
-
-/// The most bytes that a name has.
-pub const NAME_LIMIT: usize = 64;
 
 /// A name: a letter or an underscore, then letters, digits and underscores, 1 to 64 bytes in all.
 /// Case matters. It takes no memory of an allocator.
@@ -25,7 +23,7 @@ pub struct Name {
 
 impl Model for Name {
     ghost use Rattle.std.specs.Prelude.{List, ℕ, length, take};
-    ghost use Rattle.tn_text.specs.HeldNames.{IsHeldName, cells_of, cells-held, length-held};
+    ghost use Rattle.tn_text.specs.Inner.HeldNames.{IsHeldName, cells_of, cells-held, length-held};
 
     ghost Value = { List ℕ };
 
@@ -56,7 +54,7 @@ impl Name {
     pub fn bytes(&self) -> &[u8]
         ensures bytes { result.now ≡ self.now }
         ensures valid { IsTrue (is_name self.now) }
-        ensures short { length self.now ≤ name_limit }
+        ensures short { length self.now ≤ NAME_LIMIT }
     {
         &self.cells[..self.len]
     }
@@ -122,7 +120,7 @@ pub fn is_name_spelling(bytes: &[u8]) -> bool
 
 /// Bytes at the front of a name's cells.
 fn cells_of(bytes: &[u8]) -> [u8; NAME_LIMIT]
-    requires { length bytes.now ≤ name_limit }
+    requires { length bytes.now ≤ NAME_LIMIT }
     ensures { result ≡ cells_of bytes.now }
 {
     let mut cells = [0; NAME_LIMIT];

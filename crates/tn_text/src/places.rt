@@ -1,10 +1,10 @@
 ghost use Rattle.std.specs.Prelude.{◌≡◌, ◌≤◌, IsTrue};
-ghost use Rattle.tn_text.specs.Names.{name_limit};
 ghost use Rattle.tn_text.specs.Places.{name_at, number_at, file_name_at};
 ghost use Rattle.tn_text.specs.Lines.{is_ascii_line};
 
 use crate::faults::{Cause, FaultCode};
 use crate::file_names::FileName;
+use crate::limits::NAME_LIMIT;
 use crate::names::{Name, is_name_spelling};
 use crate::numbers::number;
 use std::str;
@@ -13,7 +13,7 @@ use std::str;
 /// where the token spells a longer name, `BadLine` where it spells none.
 #[tactic(auto, unfolding(crate::specs::Places::name_at))]
 pub fn name_at(token: &[u8], limit: usize) -> Result<Name, Cause>
-    requires { limit ≤ name_limit }
+    requires { limit ≤ NAME_LIMIT }
     ensures { result ≡ name_at limit token.now }
 {
     if !is_name_spelling(token) {

@@ -1,6 +1,6 @@
 ghost use Rattle.std.specs.Fmt.{decimal};
 ghost use Rattle.tn_text.specs.Puts.{Taken, Puts};
-ghost use Rattle.tn_text.specs.Words.{spaced};
+ghost use Rattle.tn_text.specs.WordTexts.{spaced};
 
 /// A sink did not take all of a piece.
 #[derive(Clone, Copy, Debug, PartialEq, Eq)]
@@ -43,7 +43,7 @@ pub fn put_decimal<P: Put>(number: u64, out: &mut P) -> Result<(), PutRefused>
 }
 
 /// Puts a blank and a word.
-#[tactic(auto, unfolding(crate::specs::Words::spaced))]
+#[tactic(auto, unfolding(crate::specs::WordTexts::spaced))]
 pub fn put_spaced<P: Put>(word: &[u8], out: &mut P) -> Result<(), PutRefused>
     ensures puts { Puts (spaced word.now) result (P.taken out.old) (P.taken out.new) }
     ensures goes_on { P.goes_on out.old out.new }
@@ -53,7 +53,7 @@ pub fn put_spaced<P: Put>(word: &[u8], out: &mut P) -> Result<(), PutRefused>
 }
 
 /// Puts a blank and a number in decimal digits.
-#[tactic(auto, unfolding(crate::specs::Words::spaced))]
+#[tactic(auto, unfolding(crate::specs::WordTexts::spaced))]
 pub fn put_spaced_decimal<P: Put>(number: u64, out: &mut P) -> Result<(), PutRefused>
     ensures puts { Puts (spaced (decimal number)) result (P.taken out.old) (P.taken out.new) }
     ensures goes_on { P.goes_on out.old out.new }

@@ -1,9 +1,9 @@
 ghost use Rattle.std.specs.Prelude.{◌≡◌, ◌<◌, ◌%◌, true};
 ghost use Rattle.std.specs.Fmt.{digit_glyph};
-ghost use Rattle.tn_text.specs.Words.{word_text};
+ghost use Rattle.tn_text.specs.WordTexts.{word_text};
 
 /// A word as texts print it: `#` and eight upper-case hexadecimal digits.
-#[tactic(auto, unfolding(crate::specs::Words::word_text))]
+#[tactic(auto, unfolding(crate::specs::WordTexts::word_text))]
 pub fn word_text(word: u32) -> [u8; 9]
     ensures { result ≡ word_text word }
 {

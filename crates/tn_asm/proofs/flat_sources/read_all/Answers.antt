@@ -2,8 +2,8 @@ use Rattle.std.proofs.Common.{◌≡◌, ℕ, Vec, Bor, Global, ◌+◌, List, �
 use Rattle.std.proofs.lemmas.List.{map-append}
 use Rattle.std.specs.Bool.{◌==◌}
 use Rattle.tn_text.specs.declared.faults.ReadFault.{ReadFault}
-use Rattle.tn_text.specs.Reading.{token_step, ReadsOn, Gives}
-use Rattle.tn_text.proofs.ReadingLoops.{tokens-stopped}
+use Rattle.tn_text.specs.Reading.{token_step, Gives}
+use Rattle.tn_text.proofs.ReadingLoops.{ReadsOn, tokens-stopped}
 use Rattle.tn_text.proofs.Results.{of-error}
 use Rattle.tn_asm.specs.Instructions.{instruction_of}
 use Rattle.tn_asm.specs.FlatReading.{instruction_said, flat_step, flat_read}

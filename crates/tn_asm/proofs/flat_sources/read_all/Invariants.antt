@@ -1,5 +1,6 @@
 use Rattle.std.proofs.Common.{◌+◌, ◌≤◌, length, map, Ok}
-use Rattle.tn_text.specs.Reading.{token_step, ReadsOn}
+use Rattle.tn_text.specs.Reading.{token_step}
+use Rattle.tn_text.proofs.ReadingLoops.{ReadsOn}
 use Rattle.tn_asm.specs.Instructions.{instruction_of}
 use Rattle.tn_asm.specs.FlatReading.{flat_step, flat_read}
 use Rattle.tn_asm.proofs.flat_sources.read_all.Given as goal

@@ -1,32 +1,23 @@
-use Rattle.std.proofs.Common.{◌≡◌, take, sym, refl, ap, ◌∙◌}
-use Rattle.tn_prefix.specs.Coding.{is_prefix, IsCoded}
-use Rattle.tn_isa.specs.declared.functions.Fun.TheVariants.{Pfix, Nfix}
-use Rattle.tn_prefix.specs.Operand.{IsPrefix, shifted}
-use Rattle.tn_prefix.proofs.Loads.{loads_from-prefixes, register_after_more, loads_at, LoadsAll-at}
-use Rattle.tn_prefix.proofs.Instructions.{IsCoded-other}
-use Rattle.std.proofs.lemmas.Bool.{true≢false}
+use Rattle.std.proofs.Common.{◌≡◌, ℕ, ◌+◌, take, All, get_or, sym, ap, ◌∙◌}
+use Rattle.tn_isa.specs.OperandRegister.{is_prefix, IsCoded, IsPrefix, operand_after}
+use Rattle.tn_prefix.specs.Operand.{register_after}
+use Rattle.tn_prefix.proofs.Loads.{loads_from-prefixes, register_after_more, loads_at}
 use Rattle.std.proofs.lemmas.List.{take_all}
 use Rattle.std.proofs.lemmas.List.Elements.{All-same}
 use Rattle.tn_prefix.proofs.operand.decode.Goals as goal
-use Rattle.tn_prefix.proofs.operand.decode.Goals.{in-Pfix, in-Nfix}
 
-pub returns-in_default : goal.returns-in_default
-returns-in_default c =
-    let bytes = c.args.bytes.now in
-    let i = c.loop-index.index in
-    let executes : IsCoded c.fun_of.result = IsCoded-other c.fun_of.result c.in_default.not-Pfix c.in_default.not-Nfix in
-    record {
-      value = sym (loads_at bytes i c.loop-index.register c.fun_of.result c.loaded-operand.result c.loop-index-test.true c.loop-index.invariant.0 c.loop-index.invariant.1 (sym c.fun_of.ensures.value) executes c.loaded-operand.ensures);
-      none = (λ none. absurd (cc), λ all. absurd (true≢false (sym (all i 0 c.loop-index-test.true) ∙ (ap is_prefix (sym c.fun_of.ensures.value) ∙ executes))));
-      front = LoadsAll-at bytes i c.loop-index.register c.fun_of.result c.loaded-operand.result c.loop-index-test.true c.loop-index.invariant.0 c.loop-index.invariant.1 (sym c.fun_of.ensures.value) executes c.loaded-operand.ensures;
-    }
+pub returns-then-not-is_prefix-clause-value : goal.returns-then-not-is_prefix-clause-value
+returns-then-not-is_prefix-clause-value c =
+    let executes : IsCoded c.fun_of-fun.result = sym c.is_prefix.ensures ∙ c.if-not-is_prefix.true in
+    sym (loads_at c.args.bytes.now c.loop-index.index c.loop-index.register c.fun_of-fun.result c.loaded.result c.loop-index-test.true c.loop-index.invariant.0 c.loop-index.invariant.1 (sym c.fun_of-fun.ensures.value) executes c.loaded.ensures)
 
 pub loop-index-preserved : goal.loop-index-preserved
 loop-index-preserved c =
-    elim c.match-fun_of.branch [
-      | in-Pfix w ↦ register_after_more c.args.bytes.now c.loop-index.index c.loop-index.register Pfix c.match-fun_of.register c.loop-index-test.true c.loop-index.invariant.0 c.loop-index.invariant.1 (sym c.fun_of.ensures.value ∙ w.in-Pfix.is) refl (w.register-is ∙ ap (shifted Pfix) c.loaded-operand.ensures)
-      | in-Nfix w ↦ register_after_more c.args.bytes.now c.loop-index.index c.loop-index.register Nfix c.match-fun_of.register c.loop-index-test.true c.loop-index.invariant.0 c.loop-index.invariant.1 (sym c.fun_of.ensures.value ∙ w.in-Nfix.is) refl (w.register-is ∙ ap (shifted Nfix) c.loaded-operand.ensures)
-    ]
+    let byte : ℕ = get_or c.args.bytes.now c.loop-index.index 0 in
+    let prefix : IsPrefix byte = ap is_prefix (sym c.fun_of-fun.ensures.value) ∙ (sym c.is_prefix.ensures ∙ c.if-not-is_prefix.false) in
+    let more : (operand_after c.loop-index.register byte ≡ register_after 0 (take (c.loop-index.index + 1) c.args.bytes.now)) × All IsPrefix (take (c.loop-index.index + 1) c.args.bytes.now) =
+    register_after_more c.args.bytes.now c.loop-index.index c.loop-index.register c.loop-index-test.true c.loop-index.invariant.0 c.loop-index.invariant.1 prefix in
+    (c.operand_after-register.ensures ∙ more.0, more.1)
 
 pub returns-clause-value : goal.returns-clause-value
 returns-clause-value c =

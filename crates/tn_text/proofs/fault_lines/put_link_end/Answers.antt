@@ -1,13 +1,15 @@
 use Rattle.std.proofs.Common.{ap, ℕ}
 use Rattle.std.specs.Fmt.{decimal}
-use Rattle.tn_text.specs.Words.{spaced}
+use Rattle.tn_text.specs.WordTexts.{spaced}
 use Rattle.tn_text.proofs.Putting.{Puts-as, Puts-joined, Puts-stopped, Puts-refused}
 use Rattle.tn_text.proofs.fault_lines.put_link_end.Goals as goal
 
 pub returns-in_err-put_spaced-clause-puts : goal.returns-in_err-put_spaced-clause-puts
 returns-in_err-put_spaced-clause-puts g c =
-    Puts-refused c.from_residual.ensures.0 (Puts-stopped (spaced (decimal c.args.link)) (Puts-as (ap spaced c.bytes.ensures.bytes) c.in_err-put_spaced.ensures.puts))
+    Puts-refused c.from_residual.ensures.0 (Puts-stopped (spaced (decimal c.args.link))
+    (Puts-as (ap spaced c.bytes.ensures.bytes) c.in_err-put_spaced.ensures.puts))
 
 pub returns-clause-puts : goal.returns-clause-puts
 returns-clause-puts g c =
-    Puts-joined (Puts-as (ap spaced c.bytes.ensures.bytes) c.in_ok-put_spaced.ensures.puts) (Puts-as (ap (λ (n : ℕ). spaced (decimal n)) c.from.ensures) c.put_spaced_decimal.ensures.puts)
+    Puts-joined (Puts-as (ap spaced c.bytes.ensures.bytes) c.in_ok-put_spaced.ensures.puts)
+    (Puts-as (ap (λ (n : ℕ). spaced (decimal n)) c.from.ensures) c.put_spaced_decimal.ensures.puts)

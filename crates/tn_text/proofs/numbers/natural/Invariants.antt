@@ -7,4 +7,5 @@ use Rattle.tn_text.proofs.numbers.natural.Given as goal
 -- what was seen are digits of this value
 abbrev pub invariant-loop-digit : goal.invariant-loop-digit
 invariant-loop-digit l =
-    (list_all (λ c. is_digit c l.radix) (take l.digit-index l.digits) ≡ true) × (l.value ≡ digits_value l.radix (take l.digit-index l.digits))
+    (list_all (λ c. is_digit c l.radix) (take l.digit-index l.digits) ≡ true)
+    × (l.value ≡ digits_value l.radix (take l.digit-index l.digits))

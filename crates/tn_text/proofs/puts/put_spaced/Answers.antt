@@ -1,4 +1,4 @@
-use Rattle.tn_text.specs.Words.{spaced}
+use Rattle.tn_text.specs.WordTexts.{spaced}
 use Rattle.tn_text.proofs.Putting.{Puts-joined, Puts-stopped, Puts-refused}
 use Rattle.tn_text.proofs.puts.put_spaced.Goals as goal
 

@@ -1,5 +1,5 @@
 use Rattle.std.specs.Fmt.{decimal}
-use Rattle.tn_text.specs.Words.{spaced}
+use Rattle.tn_text.specs.WordTexts.{spaced}
 use Rattle.tn_text.proofs.Putting.{Puts-joined, Puts-stopped, Puts-refused}
 use Rattle.tn_text.proofs.puts.put_spaced_decimal.Goals as goal
 

@@ -2,18 +2,19 @@
 use Rattle.std.specs.Prelude.{◌≡◌, ℕ, ◌-◌, ◌≤◌, true, List, ◌++◌, length, take, drop, replicate}
 use Rattle.std.proofs.Common.{arith}
 use Rattle.std.proofs.lemmas.List.{length-take, take-append-drop}
-use Rattle.tn_text.specs.Names.{name_limit, is_name}
+use Rattle.tn_text.specs.declared.limits.TheConstants.{NAME_LIMIT}
+use Rattle.tn_text.specs.Names.{is_name}
 
 -- a name's bytes lie at the front of its cells, and zeros behind them
 pub record IsHeldName (cells : List ℕ) (len : ℕ) : Type 0 where
   pub valid : is_name (take len cells) ≡ true
-  pub short : len ≤ name_limit
-  pub room : length cells ≡ name_limit
-  pub clear : drop len cells ≡ replicate (name_limit - len) 0
+  pub short : len ≤ NAME_LIMIT
+  pub room : length cells ≡ NAME_LIMIT
+  pub clear : drop len cells ≡ replicate (NAME_LIMIT - len) 0
 
 -- the cells of a name
 abbrev pub cells_of : List ℕ → List ℕ
-cells_of bytes = bytes ++ replicate (name_limit - length bytes) 0
+cells_of bytes = bytes ++ replicate (NAME_LIMIT - length bytes) 0
 
 -- as many bytes as were counted
 pub length-held : (cells : List ℕ) (len : ℕ) → IsHeldName cells len → length (take len cells) ≡ len
