@@ -5,7 +5,7 @@ use Rattle.std.specs.Prelude.{⊤, if◌then◌else◌, ◌&&◌, ◌||◌, ◌+
 use Rattle.tn_mem.specs.declared.touches.Touch.{Touch}
 use Rattle.tn_mem.specs.Spaces.{Access, first_refusal}
 use Rattle.tn_mem.specs.declared.touches.Touch.TheVariants.{Outside, Code}
-use Rattle.tn_mem.specs.Memories.{plain as plain_access, answer_if, fetch, store_byte, load, store, test_block, copy_block}
+use Rattle.tn_mem.specs.Memories.{plain_access, answer_if, fetch, store_byte, load, store, test_block, copy_block}
 use Rattle.tn_isa.specs.declared.functions.Fun.{Fun}
 use Rattle.tn_isa.specs.declared.functions.Fun.TheVariants.{J, Ldlp, Pfix, Ldnl, Ldc, Ldnlp, Nfix, Ldl, Adc, Call, Cj, Ajw, Eqc, Stl, Stnl, Opr}
 use Rattle.tn_isa.specs.declared.operations.Op.{Op}

@@ -6,7 +6,7 @@ use Rattle.std.proofs.lemmas.Bool.{false≢true}
 use Rattle.tn_io.specs.declared.faults.OutFault.{OutFault}
 use Rattle.tn_io.specs.declared.faults.PutKind.{PutKind}
 use Rattle.tn_io.specs.declared.faults.PutKind.TheVariants.{Failed, NoMemory}
-use Rattle.tn_io.specs.Faults.{Rose}
+use Rattle.tn_text.specs.Counts.{Rose}
 use Rattle.tn_io.specs.FileLists.{Files, held, with_more}
 use Rattle.tn_io.specs.Outs.{told_then, Prints}
 use Rattle.tn_io.specs.Stores.{Stored, told, told_more, Writes}

@@ -3,7 +3,7 @@ use Rattle.std.specs.Prelude.{◌≡◌, ℕ, ◌<◌, ◌≤◌, ◌⊎◌, Opt
 use Rattle.std.proofs.Common.{inl, inr, sym, subst, ◌∙◌, arith}
 use Rattle.tn_io.specs.declared.faults.PutKind.{PutKind}
 use Rattle.tn_io.specs.declared.faults.PutKind.TheVariants.{Failed}
-use Rattle.tn_io.specs.Faults.{Rose}
+use Rattle.tn_text.specs.Counts.{Rose}
 use Rattle.tn_io.specs.FileOuts.{OverFile, IsLater, GoesOn}
 
 -- a count that rose in the first of two steps rose over both

@@ -6,7 +6,7 @@ use Rattle.tn_io.specs.declared.faults.PutFault.TheVariants as put
 use Rattle.tn_io.specs.declared.faults.PutKind.{PutKind}
 use Rattle.tn_io.specs.declared.faults.PutKind.TheVariants.{Failed, NoMemory}
 use Rattle.tn_io.specs.declared.file_outs.FileOut.{FileOut}
-use Rattle.tn_io.specs.Faults.{Rose}
+use Rattle.tn_text.specs.Counts.{Rose}
 use Rattle.tn_io.specs.FileLists.{Files, held}
 use Rattle.tn_io.specs.Outs.{Printed}
 use Rattle.tn_io.specs.Stores.{Stored, told}

@@ -1,4 +1,3 @@
-pub mod Faults
 pub mod FileLists
 pub mod Stores
 pub mod Outs

@@ -1,7 +1,7 @@
 -- What a write to an output promises.
 use Rattle.std.specs.Prelude.{◌≡◌, ℕ, ◌≤◌, List, ◌++◌, take, Option, option_map, Result, OnOk, OnErr}
 use Rattle.tn_io.specs.declared.faults.OutFault.{OutFault}
-use Rattle.tn_io.specs.Faults.{Rose}
+use Rattle.tn_text.specs.Counts.{Rose}
 
 -- what contracts see of an output: the bytes written, where it tells them, and how often it failed
 pub record Printed : Type 0 where

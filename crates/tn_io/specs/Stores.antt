@@ -4,8 +4,8 @@ use Rattle.tn_io.specs.declared.faults.GetFault.{GetFault}
 use Rattle.tn_io.specs.declared.faults.GetFault.TheVariants as get
 use Rattle.tn_io.specs.declared.faults.PutFault.{PutFault}
 use Rattle.tn_io.specs.declared.faults.PutFault.TheVariants as put
-use Rattle.tn_io.specs.Faults.{Rose}
-use Rattle.tn_io.specs.FileLists.{Files, held, with_file, with_more, with_front}
+use Rattle.tn_text.specs.Counts.{Rose}
+use Rattle.tn_io.specs.FileLists.{Files, held, with_file, with_more, with_front, HasDistinctNames}
 
 -- what contracts see of a store: its files, where it tells them, the name of the open file, and
 -- how often it failed to read and to write
@@ -32,6 +32,11 @@ told_more (Some name) more files = option_map (with_more name more) files
 abbrev pub told_front : Option (List ℕ) → ℕ → Option Files → Option Files
 told_front None count files = files
 told_front (Some name) count files = option_map (with_front name count) files
+
+-- a store that tells its files has no name twice, before a call and after it
+pub record TellsEachOnce (before after : Stored) : Type 0 where
+  pub before_it : IfSome before.files HasDistinctNames
+  pub after_it : IfSome after.files HasDistinctNames
 
 -- What a get answers and reads, of a file that is told or not: all bytes of the file; or none, since
 -- it is missing, the store failed, the file is too long, or memory ran out.

@@ -1,5 +1,5 @@
 ghost use Rattle.std.specs.Prelude.{◌≡◌, ◌+◌, ◌-◌, ◌^◌, ◌≤◌, min};
-ghost use Rattle.tn_io.specs.Faults.{Rose};
+ghost use Rattle.tn_text.specs.Counts.{Rose};
 
 use thiserror::Error;
 

@@ -2,7 +2,7 @@ ghost use Rattle.std.specs.Prelude.{◌≡◌, ◌≤◌, ◌<◌, ◌-◌, ◌^
 ghost use Rattle.std.specs.Str.{bytes_eq};
 ghost use Rattle.std.specs.Option.{option_copied};
 ghost use Rattle.tn_io.specs.FileLists.{held, with_file, with_more, IsPlace, HasNoPlace, HasDistinctNames};
-ghost use Rattle.tn_io.specs.Stores.{Gets, Creates, Writes, Closes};
+ghost use Rattle.tn_io.specs.Stores.{TellsEachOnce, Gets, Creates, Writes, Closes};
 ghost use Rattle.tn_io.specs.MemStores.{files_of, stored_of, IsListed, CountsCall};
 
 use crate::faults::{GetFault, PutFault, count_fault};
@@ -11,6 +11,7 @@ use crate::listed_calls::ListedCalls;
 use crate::stores::Store;
 use std::alloc::AllocError;
 use std::marker::Model;
+use tn_text::limits::FILE_NAME_LIMIT;
 
 /// A store in memory that tells its files and refuses the calls of a list, as a failing device
 /// does. Calls are numbered from 0 over all calls of the store. A refused call leaves the files as
@@ -78,10 +79,11 @@ impl Store for MemStore {
     ghost stored = { stored_of };
 
     fn get(&mut self, name: &str, limit: u64, into: &mut Vec<u8>) -> Result<(), GetFault>
-        requires name { length name.now ≤ 255 }
+        requires name { length name.now ≤ FILE_NAME_LIMIT }
         requires limit { limit < 2 ^ 64 - 1 }
         requires empty { into.old.items ≡ [] }
         ensures gets { Gets name.now limit result into.new.items (stored_of self.old) (stored_of self.new) }
+        ensures once { TellsEachOnce (stored_of self.old) (stored_of self.new) }
         ensures refused { IsErrOf result GetFault.Failed ↔ (IsListed self.old ⊎ (held self.old.files name.now ≡ None)) }
         ensures counted { CountsCall self.old self.new }
     {
@@ -103,8 +105,9 @@ impl Store for MemStore {
     }
 
     fn create(&mut self, name: &str) -> Result<(), PutFault>
-        requires name { length name.now ≤ 255 }
+        requires name { length name.now ≤ FILE_NAME_LIMIT }
         ensures creates { Creates name.now result (stored_of self.old) (stored_of self.new) }
+        ensures once { TellsEachOnce (stored_of self.old) (stored_of self.new) }
         ensures refused { IsErrOf result PutFault.Failed ↔ IsListed self.old }
         ensures kept { IsListed self.old → self.new.files ≡ self.old.files }
         ensures counted { CountsCall self.old self.new }
@@ -125,6 +128,7 @@ impl Store for MemStore {
 
     fn write(&mut self, bytes: &[u8]) -> Result<(), PutFault>
         ensures writes { Writes bytes.now result (stored_of self.old) (stored_of self.new) }
+        ensures once { TellsEachOnce (stored_of self.old) (stored_of self.new) }
         ensures refused { IsErrOf result PutFault.Failed ↔ (IsListed self.old ⊎ (self.old.opened ≡ None)) }
         ensures kept { IsListed self.old → self.new.files ≡ self.old.files }
         ensures counted { CountsCall self.old self.new }
@@ -145,6 +149,7 @@ impl Store for MemStore {
 
     fn close(&mut self) -> Result<(), PutFault>
         ensures closes { Closes result (stored_of self.old) (stored_of self.new) }
+        ensures once { TellsEachOnce (stored_of self.old) (stored_of self.new) }
         ensures refused { IsErrOf result PutFault.Failed ↔ (IsListed self.old ⊎ (self.old.opened ≡ None)) }
         ensures kept { self.new.files ≡ self.old.files }
         ensures counted { CountsCall self.old self.new }
@@ -185,7 +190,7 @@ fn bytes_under<'a>(files: &'a [(FileText, Vec<u8>)], name: &str) -> Option<&'a [
 
 /// Makes or empties a name's file.
 fn empty_file(files: &mut Vec<(FileText, Vec<u8>)>, name: &str) -> Result<(), AllocError>
-    requires { length name.now ≤ 255 }
+    requires { length name.now ≤ FILE_NAME_LIMIT }
     ensures ok { OnOk result (files_of files.new.items ≡ with_file name.now [] (files_of files.old.items)) }
     ensures err { OnErr result (files_of files.new.items ≡ files_of files.old.items) }
 {

@@ -16,12 +16,19 @@ pub position-suc : (s : List ℕ) (k : ℕ) → position s (suc k) ≡ position 
 position-suc [] zero = refl
 position-suc [] (suc k) = refl
 position-suc (x ∷ s) zero = omega (arith, sum_by-cons (λ (n : ℕ). n) x [])
-position-suc (x ∷ s) (suc k) = omega (arith, sum_by-cons (λ (n : ℕ). n) x (take (suc k) s), sum_by-cons (λ (n : ℕ). n) x (take k s), position-suc s k)
+position-suc (x ∷ s) (suc k) = omega (
+  arith,
+  sum_by-cons (λ (n : ℕ). n) x (take (suc k) s),
+  sum_by-cons (λ (n : ℕ). n) x
+      (take k s),
+  position-suc s k,
+)
 
 -- places are further apart where the sizes are larger
 spread : (s t : List ℕ) (a d : ℕ) → AreAtMost s t → position s (d + a) + position t a ≤ position t (d + a) + position s a
 spread s t a zero h = let e : 0 + a ≡ a = omega arith in rw e (omega arith)
-spread s t a (suc d) h = let e : suc d + a ≡ suc (d + a) = omega arith in rw e (omega (arith, position-suc s (d + a), position-suc t (d + a), h (d + a), spread s t a d h))
+spread s t a (suc d) h = let e : suc d + a ≡ suc (d + a) = omega arith in
+    rw e (omega (arith, position-suc s (d + a), position-suc t (d + a), h (d + a), spread s t a d h))
 
 pub position-spread : (s t : List ℕ) (a b : ℕ) → a ≤ b → AreAtMost s t → position s b + position t a ≤ position t b + position s a
 position-spread s t a b h most =
@@ -52,11 +59,13 @@ ahead-mono x y u v h more = rw (ahead x y h, ahead u v (omega arith)) (coding_le
 behind-mono : (x y u v : ℕ) → x ≤ y → u + y ≤ x + v → coding_length (pos x -ℤ pos y) ≤ coding_length (pos u -ℤ pos v)
 behind-mono x y u v h more = ⊎_elim
     (λ (less : x < y). rw (behind x y less, behind u v (omega arith)) (coding_length-mono_negative (y - x - 1) (v - u - 1) (omega arith)))
-    (λ (over : y ≤ x). rw (ahead x y over) (omega (arith, coding_length-small (x - y) (omega arith), (coding_length-range (pos u -ℤ pos v)).0)))
+    (λ (over : y ≤ x). rw (ahead x y over) (omega
+    (arith, coding_length-small (x - y) (omega arith), (coding_length-range (pos u -ℤ pos v)).0)))
     (cases_lt x y)
 
 -- no size that grows brings an operand nearer to 0
-pub distance-mono : (s t : List ℕ) (high low : ℕ) → AreAtMost s t → coding_length (distance s high low) ≤ coding_length (distance t high low)
+pub distance-mono : (s t : List ℕ) (high low : ℕ) → AreAtMost s t
+    → coding_length (distance s high low) ≤ coding_length (distance t high low)
 distance-mono s t high low most = ⊎_elim
     (λ (less : high < low). behind-mono (position s high) (position s low) (position t high) (position t low)
     (position-mono s high low (omega arith)) (omega (arith, position-spread s t high low (omega arith) most)))

@@ -6,7 +6,9 @@ use Rattle.std.proofs.lemmas.List.{get_or_past, get_or-map, length-map, take_all
 use Rattle.tn_prefix.proofs.Lengths.{coding_length-range}
 use Rattle.tn_layout.specs.declared.pieces.Piece.{Piece}
 use Rattle.tn_layout.specs.declared.pieces.Piece.TheVariants.{Fixed, Rel, Diff}
-use Rattle.tn_layout.specs.Sizes.{piece_at, position, distance, needed, first_size, Suits, Valid, ArePositions}
+use Rattle.tn_text.specs.declared.limits.TheConstants.{ITEM_LIMIT}
+use Rattle.tn_layout.specs.Sizes.{piece_at, position, distance, needed, Suits, Valid}
+use Rattle.tn_layout.specs.Inner.Positions.{first_size, ArePositions}
 use Rattle.tn_layout.proofs.Distances.{AreAtMost, distance-mono}
 
 -- a piece needs no fewer bytes where sizes are larger
@@ -64,14 +66,20 @@ pub low_first : (pieces : List Piece) (s : List ℕ) → s ≡ map (λ piece. fi
 low_first pieces s made = record {
   as_many = ap length made ∙ length-map pieces (λ (piece : Piece). first_size piece);
   low = λ i l. omega (arith, is i l, first-needed s i (piece_at pieces i));
-  under = λ others valid i l. omega (arith, is i l, first-needed others i (piece_at pieces i), suits-needed others i (piece_at pieces i) (valid.suits i l));
+  under = λ others valid i l. omega (
+    arith,
+    is i l,
+    first-needed others i (piece_at pieces i),
+    suits-needed others i
+        (piece_at pieces i) (valid.suits i l),
+  );
 }
   where
     is : (i : ℕ) → i < length pieces → get_or s i 0 ≡ first_size (piece_at pieces i)
     is i l = ap (λ xs. get_or xs i 0) made ∙ get_or-map (λ (piece : Piece). first_size piece) pieces i (Fixed 0) 0 l
 
 -- sizes that have positions are not many bytes
-pub few_bytes : (s positions : List ℕ) → ArePositions s positions → sum s ≤ 255 * 65536
+pub few_bytes : (s positions : List ℕ) → ArePositions s positions → sum s ≤ 255 * ITEM_LIMIT
 few_bytes s positions h =
     let whole : position s (length s) ≡ sum s = ap sum (take_all (length s) s (omega arith)) in
     omega (arith, whole, h.each (length s) (omega arith), h.bounded (length s))

@@ -1,7 +1,8 @@
 -- Sizes of pieces in bytes: the positions that they give, the operands of references, and the
 -- least sizes that hold them.
-use Rattle.std.specs.Prelude.{◌≡◌, ℕ, ◌+◌, ◌*◌, ◌<◌, ◌≤◌, ℤ, pos, ◌-ℤ◌, List, length, take, slice_index, slice_index_or, ⊤}
+use Rattle.std.specs.Prelude.{◌≡◌, ℕ, ◌+◌, ◌<◌, ◌≤◌, ℤ, pos, ◌-ℤ◌, List, length, take, slice_index, slice_index_or, ⊤}
 use Rattle.std.specs.List.{sum}
+use Rattle.tn_text.specs.declared.limits.TheConstants.{CODE_LIMIT}
 use Rattle.tn_prefix.specs.Coding.{coding_length}
 use Rattle.tn_layout.specs.declared.pieces.Piece.{Piece}
 use Rattle.tn_layout.specs.declared.pieces.Piece.TheVariants.{Fixed, Rel, Diff}
@@ -48,11 +49,12 @@ pub record Least (pieces : List Piece) (sizes : List ℕ) : Type 0 where
 abbrev pub IsExact : List Piece → List ℕ → Type 0
 IsExact pieces sizes = (i : ℕ) → i < length pieces → slice_index sizes i ≡ needed sizes i (piece_at pieces i)
 
--- the size of a fixed piece, and one byte for a reference, whose operand needs no fewer
-abbrev pub first_size : Piece → ℕ
-first_size (Fixed size) = size
-first_size (Rel to) = 1
-first_size (Diff high low) = 1
+-- one list is the least, and no other; in it each size is what its piece needs
+pub record OneIsLeast (pieces : List Piece) : Type 0 where
+  pub sizes : List ℕ
+  pub least : Least pieces sizes
+  pub exact : IsExact pieces sizes
+  pub only : (others : List ℕ) → Least pieces others → others ≡ sizes
 
 -- the places that a reference names are at most n
 abbrev pub NamesUpTo : ℕ → Piece → Type 0
@@ -69,15 +71,9 @@ pub record IsTooLong (pieces : List Piece) (total : ℕ) : Type 0 where
   pub sizes : List ℕ
   pub least : Least pieces sizes
   pub total_is : sum sizes ≡ total
-  pub over : 262144 < total
+  pub over : CODE_LIMIT < total
 
--- what a fault says of the pieces
-abbrev pub Says : List Piece → LayoutFault → Type 0
-Says pieces (TooLong total) = IsTooLong pieces total
-Says pieces NoMemory = ⊤
-
--- the positions of all places, from the first on
-pub record ArePositions (sizes positions : List ℕ) : Type 0 where
-  pub as_many : length positions ≡ length sizes + 1
-  pub each : (k : ℕ) → k ≤ length sizes → slice_index positions k ≡ position sizes k
-  pub bounded : (k : ℕ) → slice_index positions k ≤ 255 * 65536
+-- why the pieces get no sizes
+abbrev pub IsLayoutFault : List Piece → LayoutFault → Type 0
+IsLayoutFault pieces (TooLong total) = IsTooLong pieces total
+IsLayoutFault pieces NoMemory = ⊤

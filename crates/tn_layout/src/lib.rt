@@ -9,6 +9,3 @@ mod sizes;
 
 pub use pieces::{LayoutFault, Piece};
 pub use sizes::settle;
-
-#[cfg(test)]
-mod tests;

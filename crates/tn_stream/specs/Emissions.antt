@@ -1,6 +1,6 @@
 -- What a call promises that emits a text through an output.
 use Rattle.std.specs.Prelude.{◌≡◌, ℕ, ◌≤◌, List, length, take, Result, IfOk, IsErrOf}
-use Rattle.tn_io.specs.Faults.{Rose}
+use Rattle.tn_text.specs.Counts.{Rose}
 use Rattle.tn_io.specs.Outs.{Printed, told_then}
 use Rattle.tn_stream.specs.declared.faults.StreamFault.{StreamFault}
 use Rattle.tn_stream.specs.declared.faults.StreamFault.TheVariants.{Out, NoMemory}

@@ -2,7 +2,7 @@
 use Rattle.std.proofs.Common.{◌≡◌, ℕ, ◌<◌, ◌≤◌, inl, inr, ℤ, List, length, Option, Some, None, IfSome, IsSomeAnd, Result, Ok, Err, refl, sym, ap, subst}
 use Rattle.std.proofs.lemmas.Bool.{lt-ltb, le-ltb}
 use Rattle.tn_isa.specs.declared.functions.Fun.{Fun}
-use Rattle.tn_io.specs.Faults.{Rose}
+use Rattle.tn_text.specs.Counts.{Rose}
 use Rattle.tn_io.specs.FileLists.{Files}
 use Rattle.tn_io.specs.Stores.{Stored}
 use Rattle.tn_text.specs.declared.faults.Fault.{Fault}

@@ -1,6 +1,6 @@
 -- What is told on the error output.
 use Rattle.std.specs.Prelude.{◌≡◌, ℕ, List, [], take, Some}
-use Rattle.tn_io.specs.Faults.{Rose}
+use Rattle.tn_text.specs.Counts.{Rose}
 use Rattle.tn_io.specs.Outs.{Printed, told_then}
 use Rattle.tn_io.specs.Stores.{Stored}
 use Rattle.tn_text.specs.declared.faults.Fault.{Fault}

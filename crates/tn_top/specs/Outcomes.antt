@@ -1,7 +1,7 @@
 -- How a command ends, and what it leaves.
 use Rattle.std.specs.Prelude.{◌≡◌, ◌≢◌, ⊤, ℕ, ◌⊎◌, not, List, [], ◌++◌, filter, take, Option, Some, None, unwrap_or, IfSome, IsSomeAnd}
 use Rattle.std.specs.Str.{bytes_eq}
-use Rattle.tn_io.specs.Faults.{Rose}
+use Rattle.tn_text.specs.Counts.{Rose}
 use Rattle.tn_io.specs.FileLists.{Files, held}
 use Rattle.tn_io.specs.Stores.{Stored}
 use Rattle.tn_top.specs.declared.statuses.Status.{Status}

@@ -1,5 +1,5 @@
 ghost use Rattle.std.specs.Prelude.{◌≡◌, ◌<◌, ◌≤◌, ◌⊎◌, ℕ, List, map, length, vec_len, Some, None, IfOk, IfErr, string_bytes, IsTrue};
-ghost use Rattle.tn_io.specs.Faults.{Rose};
+ghost use Rattle.tn_text.specs.Counts.{Rose};
 ghost use Rattle.tn_text.specs.declared.faults.Fault.{Fault};
 ghost use Rattle.tn_text.specs.FileNames.{is_file_name};
 ghost use Rattle.tn_top.specs.Words.{asked, seen, source_of, target_of, IsWithin};

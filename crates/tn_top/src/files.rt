@@ -1,5 +1,5 @@
 ghost use Rattle.std.specs.Prelude.{◌≡◌, ◌≤◌, length, None, IfOk, IfErr, IfSome, OnOk, OnErr, IsErrOf};
-ghost use Rattle.tn_io.specs.Faults.{Rose};
+ghost use Rattle.tn_text.specs.Counts.{Rose};
 ghost use Rattle.tn_top.specs.Outcomes.{Told, Holds, HoldsPart};
 
 use tn_io::{PutFault, Store};

@@ -1,5 +1,5 @@
 ghost use Rattle.std.specs.Prelude.{◌≡◌, ◌<◌, ◌≤◌, length, vec_len, None, Some, IfOk, OnOk, OnErr, IsErrOf};
-ghost use Rattle.tn_io.specs.Faults.{Rose};
+ghost use Rattle.tn_text.specs.Counts.{Rose};
 ghost use Rattle.tn_io.specs.FileOuts.{IsThere};
 ghost use Rattle.tn_stream.specs.Images.{image_of, AreLoadable};
 ghost use Rattle.tn_stream.specs.Streams.{one_processor, stream};

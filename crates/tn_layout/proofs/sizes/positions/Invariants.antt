@@ -1,4 +1,5 @@
 use Rattle.std.proofs.Common.{◌≡◌, ℕ, ◌+◌, ◌*◌, ◌≤◌, vec_len, get_or}
+use Rattle.tn_text.specs.declared.limits.TheConstants.{ITEM_LIMIT}
 use Rattle.tn_layout.specs.Sizes.{position}
 use Rattle.tn_layout.proofs.sizes.positions.Given as goal
 
@@ -9,5 +10,5 @@ invariant-loop-size l = record {
   end : l.end ≡ position l.sizes l.size-index;
   small : l.end ≤ 255 * l.size-index;
   each : (k : ℕ) → k ≤ l.size-index → get_or l.positions.items k 0 ≡ position l.sizes k;
-  bounded : (k : ℕ) → get_or l.positions.items k 0 ≤ 255 * 65536;
+  bounded : (k : ℕ) → get_or l.positions.items k 0 ≤ 255 * ITEM_LIMIT;
 }
