@@ -1,5 +1,5 @@
 -- What each act of a node does to the bytes that are not acknowledged.
-use Rattle.std.proofs.Common.{◌≡◌, ◌≢◌, ℕ, zero, suc, ◌+◌, ◌-◌, ◌*◌, ◌/◌, ◌%◌, ◌==◌, ◌<◌, ◌≤◌, Bool, true, false, List, [], ◌∷◌}
+use Rattle.std.proofs.Common.{◌≡◌, ◌≢◌, ℕ, zero, suc, ◌+◌, ◌-◌, ◌==◌, ◌≤◌, Bool, true, false, List, [], ◌∷◌}
 use Rattle.std.proofs.Common.{Option, Some, None, Result, Ok, Err, refl, sym, ap, ◌∙◌, arith}
 use Rattle.std.specs.Prelude.{slice_set, slice_index_or, nat_lt, not, ◌&&◌, if◌then◌else◌}
 use Rattle.std.specs.Int.{w32, to_le_bytes}
@@ -7,7 +7,6 @@ use Rattle.std.specs.Result.{result_unwrap_or}
 use Rattle.std.proofs.lemmas.Bool.Decides.{nat_tests}
 use Rattle.tn_mem.specs.declared.touches.Touch.{Touch}
 use Rattle.tn_mem.specs.Spaces.{Access}
-use Rattle.tn_word.specs.Words.{mem_start}
 use Rattle.tn_cpu.specs.declared.outcomes.Outcome.{Outcome}
 use Rattle.tn_cpu.specs.declared.outcomes.Outcome.TheVariants as outcome
 use Rattle.tn_cpu.specs.declared.outcomes.Transfer.{Transfer}
@@ -16,7 +15,7 @@ use Rattle.tn_node.specs.declared.engines.Engine.{Engine}
 use Rattle.tn_node.specs.declared.modes.Stage.{Stage}
 use Rattle.tn_node.specs.declared.modes.Stage.TheVariants.{Reset, Poking, Peeking, Replying, Booting, Refused, Over}
 use Rattle.tn_node.specs.Engines.{engine_of, opened}
-use Rattle.tn_node.specs.Nodes.{NodeState, is_over, all_closed, IsNode}
+use Rattle.tn_node.specs.Nodes.{NodeState, is_over, IsNode}
 use Rattle.tn_node.specs.Bootstraps.{bootstrapped, gathered, poked, peeked, boot_stored}
 use Rattle.tn_node.specs.Links.{is_booting, is_reply, is_reply_at, reply_byte, output_byte, offers, engine_sent, marked_sent, is_sent}
 use Rattle.tn_node.specs.Links.{awaits}

@@ -1,5 +1,5 @@
 -- Each act of a node keeps what holds of each node.
-use Rattle.std.proofs.Common.{◌≡◌, ℕ, zero, suc, ◌+◌, ◌-◌, ◌==◌, ◌<◌, ◌≤◌, ◌⊎◌, inl, inr, Bool, true, false, List, [], ◌∷◌, length}
+use Rattle.std.proofs.Common.{◌≡◌, ℕ, zero, suc, ◌+◌, ◌-◌, ◌==◌, ◌<◌, ◌≤◌, ◌⊎◌, inl, inr, Bool, true, false, List, [], ◌∷◌}
 use Rattle.std.proofs.Common.{Option, Some, None, Result, Ok, Err, refl, sym, ap, ◌∙◌, subst, arith}
 use Rattle.std.specs.Prelude.{slice_set, nat_lt, not, ◌&&◌, IsSome, if◌then◌else◌}
 use Rattle.std.proofs.Math.ListN.{length-set}
@@ -21,7 +21,7 @@ use Rattle.tn_node.specs.Engines.{engine_of, moved, opened}
 use Rattle.tn_node.specs.Nodes.{NodeState, nothing_expected, all_closed, reset_node, is_over, ExpectsAt, IsUnderWay, IsReply, IsBootstrap}
 use Rattle.tn_node.specs.Nodes.{AreInputs, AreOutputs, IsNode}
 use Rattle.tn_node.specs.Bootstraps.{began, gathered, refused, poked, poking, peeked, peeking, boot_stored, bootstrapped, with_byte}
-use Rattle.tn_node.specs.Links.{is_booting, is_reply, is_reply_at, reply_byte, output_byte, offers, engine_sent, marked_sent, awaits}
+use Rattle.tn_node.specs.Links.{is_booting, is_reply, is_reply_at, reply_byte, output_byte, offers, engine_sent, marked_sent}
 use Rattle.tn_node.specs.Links.{reply_acknowledged, engine_acknowledged, acknowledged, byte_stored, engine_taken, taken}
 use Rattle.tn_node.specs.Runs.{with_outcome, ended}
 

@@ -39,9 +39,7 @@ impl<M: Space> Model for Node<M> {
 
     ghost view = { λ n. record { cpu = n.cpu; stage = n.stage; expects = n.expects; inputs = n.inputs; outputs = n.outputs } };
 
-    ghost invariant = {
-        λ n. IsNode (record { cpu = n.cpu; stage = n.stage; expects = n.expects; inputs = n.inputs; outputs = n.outputs })
-    };
+    ghost invariant = { λ n. IsNode (record { cpu = n.cpu; stage = n.stage; expects = n.expects; inputs = n.inputs; outputs = n.outputs }) };
 }
 
 impl<M: Space> Node<M> {
