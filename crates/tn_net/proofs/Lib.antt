@@ -2,6 +2,7 @@ pub mod Places
 pub mod Reading
 pub mod Joining
 pub mod Faultless
+pub mod FirstFaults
 pub mod Described
 pub mod Ranks
 pub mod Visiting

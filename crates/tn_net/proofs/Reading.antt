@@ -10,10 +10,10 @@ use Rattle.tn_net.specs.declared.lines.Refusal.{Refusal}
 use Rattle.tn_net.specs.declared.networks.Far.{Far}
 use Rattle.tn_net.specs.declared.networks.Far.TheVariants.{Nothing, Host, Link}
 use Rattle.tn_net.specs.Lines.{IsNamed, IsKnown, AreDistinct, line_at, HasEnd, Wires, IsTakenBefore, HasLinks, DifferInNumber}
-use Rattle.tn_net.specs.Faults.{IsRight, IsFirstWrong, IsWrong, one_unknown, two_unknown, one_twice, two_twice}
+use Rattle.tn_net.specs.Faults.{IsRight, IsWrongLine, one_unknown, two_unknown, one_twice, two_twice}
 use Rattle.tn_net.specs.Networks.{end_of}
 use Rattle.tn_net.specs.Inner.Tables.{entry, Shows, IsTable, IsNext, Joins, joins_host, joins_ends, Refuses, refuses_one, refuses_two}
-use Rattle.tn_net.specs.Inner.Tables.{taken_one, taken_two, cause_of, AllBefore, IsWired}
+use Rattle.tn_net.specs.Inner.Tables.{taken_one, taken_two, cause_of, AllBefore, IsWired, IsFirstWrongLine}
 use Rattle.tn_net.proofs.Places.{end_is, one_end, some_same}
 
 same_or_other : (i j : ℕ) → (i ≡ j) ⊎ (i ≢ j)
@@ -156,7 +156,7 @@ joins_right names lines n k old new distinct links table next (joins_ends p q en
 -- what is wrong with a line that is refused
 pub refused_wrong : (names : List (List ℕ × ℕ × ℕ)) (lines : List EndLine) (n k : ℕ) (old : List Far) (refusal : Refusal)
     → HasLinks (line_at lines k) → IsTable names lines n old → IsNext lines n (length lines) k
-    → Refuses names (line_at lines k) old refusal → IsWrong names lines (line_at lines k) (cause_of refusal)
+    → Refuses names (line_at lines k) old refusal → IsWrongLine names lines (line_at lines k) (cause_of refusal)
 refused_wrong names lines n k old refusal links table next (refuses_one none is) = one_unknown none (ap cause_of is)
 refused_wrong names lines n k old refusal links table next (refuses_two end two known none is) =
     two_unknown end two known none (ap cause_of is)
@@ -297,7 +297,7 @@ right_more names lines n k differ next before right j hj below =
 -- the fault of a line that is refused is the first
 pub first_wrong : (names : List (List ℕ × ℕ × ℕ)) (lines : List EndLine) (n k : ℕ) (cause : Cause) → IsNext lines n (length lines) k
     → ((j : ℕ) → j < length lines → (line_at lines j).line < n → IsRight names lines (line_at lines j))
-    → IsWrong names lines (line_at lines k) cause → IsFirstWrong names lines (fault_at (line_at lines k).line cause)
+    → IsWrongLine names lines (line_at lines k) cause → IsFirstWrongLine names lines (fault_at (line_at lines k).line cause)
 first_wrong names lines n k cause next before wrong = record {
   place = k;
   here = next.here;

@@ -1,10 +1,11 @@
 -- What is wrong with a description of a network, and what is wrong first.
-use Rattle.std.specs.Prelude.{◌≡◌, ℕ, ◌+◌, ◌<◌, ◌⊎◌, ◌≢◌, List, length, Some, None}
+use Rattle.std.specs.Prelude.{◌≡◌, ⊤, ℕ, ◌+◌, ◌<◌, ◌⊎◌, ◌≢◌, List, length, Some, None}
 use Rattle.tn_text.specs.declared.faults.Cause.{Cause}
 use Rattle.tn_text.specs.declared.faults.Fault.{Fault}
 use Rattle.tn_text.specs.declared.faults.FaultCode.TheVariants.{DuplicateProcessor, UnknownProcessor, WireTwice, NoHost}
 use Rattle.tn_text.specs.declared.faults.Detail.TheVariants.{Named, LinkEnd as End}
 use Rattle.tn_text.specs.Faults.{bare, fault_at}
+use Rattle.tn_text.specs.Firsts.{IsFirstWrong}
 use Rattle.tn_net.specs.declared.lines.LinkEnd.{LinkEnd}
 use Rattle.tn_net.specs.declared.lines.EndLine.{EndLine}
 use Rattle.tn_net.specs.RawNetworks.{RawLists}
@@ -37,46 +38,53 @@ pub record IsRight (names : List (List ℕ × ℕ × ℕ)) (lines : List EndLine
 
 -- What is wrong with the line: no processor has the name of the one end, or of the other; else the
 -- one end stands on a line with a lower number; else the other does, or is the one end again.
-pub data IsWrong (names : List (List ℕ × ℕ × ℕ)) (lines : List EndLine) (line : EndLine) (cause : Cause) : Type 0 where
-  one_unknown : (IsKnown names line.one.name → ⊥) → cause ≡ unknown line.one → IsWrong names lines line cause
+pub data IsWrongLine (names : List (List ℕ × ℕ × ℕ)) (lines : List EndLine) (line : EndLine) (cause : Cause) : Type 0 where
+  one_unknown : (IsKnown names line.one.name → ⊥) → cause ≡ unknown line.one → IsWrongLine names lines line cause
   two_unknown : (end : LinkEnd) → line.two ≡ Some end → IsKnown names line.one.name → (IsKnown names end.name → ⊥) → cause ≡ unknown end
-      → IsWrong names lines line cause
-  one_twice : NamesProcessors names line → IsTakenBefore lines line.line line.one → cause ≡ twice line.one → IsWrong names lines line cause
+      → IsWrongLine names lines line cause
+  one_twice : NamesProcessors names line → IsTakenBefore lines line.line line.one → cause ≡ twice line.one
+      → IsWrongLine names lines line cause
   two_twice : (end : LinkEnd) → line.two ≡ Some end → NamesProcessors names line → (IsTakenBefore lines line.line line.one → ⊥)
-      → IsTakenBefore lines line.line end ⊎ (line.one ≡ end) → cause ≡ twice end → IsWrong names lines line cause
+      → IsTakenBefore lines line.line end ⊎ (line.one ≡ end) → cause ≡ twice end → IsWrongLine names lines line cause
 
 -- nothing is wrong with any of the lines
 abbrev pub AreRight : List (List ℕ × ℕ × ℕ) → List EndLine → Type 0
 AreRight names lines = (k : ℕ) → k < length lines → IsRight names lines (line_at lines k)
 
--- the fault is that of the first line, by its number, with something wrong
-pub record IsFirstWrong (names : List (List ℕ × ℕ × ℕ)) (lines : List EndLine) (fault : Fault) : Type 0 where
-  pub place : ℕ
-  pub here : place < length lines
-  pub before : (k : ℕ) → k < length lines → (line_at lines k).line < (line_at lines place).line → IsRight names lines (line_at lines k)
+-- where something can be wrong: with the name of a processor, with a line that wires ends, or with the host
+pub data FaultPlace : Type 0 where
+  AtName : (k : ℕ) → FaultPlace
+  AtLine : (k : ℕ) → FaultPlace
+  AtHost : FaultPlace
+
+-- what is wrong there: an earlier processor has the name; something with the line; the host has no end
+abbrev pub IsWrongAt : RawLists → FaultPlace → Cause → Type 0
+IsWrongAt raw (AtName k) cause = (k < length raw.names) × IsRepeated raw.names k × (cause ≡ duplicate (name_at raw.names k))
+IsWrongAt raw (AtLine k) cause = (k < length (end_lines raw)) × IsWrongLine raw.names (end_lines raw) (line_at (end_lines raw) k) cause
+IsWrongAt raw AtHost cause = (raw.host ≡ None) × (cause ≡ bare NoHost)
+
+-- names come before lines, and lines, by their numbers, before the host
+abbrev pub IsBefore : RawLists → FaultPlace → FaultPlace → Type 0
+IsBefore raw (AtName j) (AtName k) = j < k
+IsBefore raw (AtName j) (AtLine k) = ⊤
+IsBefore raw (AtName j) AtHost = ⊤
+IsBefore raw (AtLine j) (AtName k) = ⊥
+IsBefore raw (AtLine j) (AtLine k) = (line_at (end_lines raw) j).line < (line_at (end_lines raw) k).line
+IsBefore raw (AtLine j) AtHost = ⊤
+IsBefore raw AtHost place = ⊥
+
+-- the line where it is told: that the host has no end, behind the last line
+abbrev pub number_at : RawLists → FaultPlace → ℕ
+number_at raw (AtName k) = line_of raw.names k
+number_at raw (AtLine k) = (line_at (end_lines raw) k).line
+number_at raw AtHost = raw.lines + 1
+
+-- the fault tells the first thing that is wrong
+pub record IsNetworkFault (raw : RawLists) (fault : Fault) : Type 0 where
+  pub place : FaultPlace
   pub cause : Cause
-  pub wrong : IsWrong names lines (line_at lines place) cause
-  pub told : fault ≡ fault_at (line_at lines place).line cause
-
--- the fault is that of the first processor whose name an earlier one has
-pub record IsFirstRepeated (names : List (List ℕ × ℕ × ℕ)) (fault : Fault) : Type 0 where
-  pub place : ℕ
-  pub here : place < length names
-  pub before : AreDistinct names place
-  pub repeated : IsRepeated names place
-  pub told : fault ≡ fault_at (line_of names place) (duplicate (name_at names place))
-
--- the host has no end, and the fault stands behind the last line
-pub record LacksHost (raw : RawLists) (fault : Fault) : Type 0 where
-  pub none : raw.host ≡ None
-  pub told : fault ≡ fault_at (raw.lines + 1) (bare NoHost)
-
--- The first fault: a name that is repeated; else the first line that wires ends with something
--- wrong; else that the host has no end.
-pub data IsNetworkFault (raw : RawLists) (fault : Fault) : Type 0 where
-  repeated : IsFirstRepeated raw.names fault → IsNetworkFault raw fault
-  wrong : AreDistinct raw.names (length raw.names) → IsFirstWrong raw.names (end_lines raw) fault → IsNetworkFault raw fault
-  hostless : AreDistinct raw.names (length raw.names) → AreRight raw.names (end_lines raw) → LacksHost raw fault → IsNetworkFault raw fault
+  pub first : IsFirstWrong (IsBefore raw) (IsWrongAt raw) place cause
+  pub told : fault ≡ fault_at (number_at raw place) cause
 
 -- no fault stands
 pub record IsFaultless (raw : RawLists) : Type 0 where

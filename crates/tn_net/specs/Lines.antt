@@ -1,5 +1,6 @@
 -- The lines that name processors, and those that wire ends.
 use Rattle.std.specs.Prelude.{◌≡◌, ℕ, ◌<◌, ◌≤◌, ◌-◌, ◌^◌, ◌≢◌, ◌⊎◌, List, [], ◌∷◌, ◌++◌, map, length, slice_index_or, Option, Some, None}
+use Rattle.tn_text.specs.declared.limits.TheConstants.{PROCESSOR_LIMIT}
 use Rattle.tn_mem.specs.Sizes.{IsMemorySize}
 use Rattle.tn_net.specs.declared.lines.LinkEnd.{LinkEnd}
 use Rattle.tn_net.specs.declared.lines.EndLine.{EndLine}
@@ -78,7 +79,7 @@ DifferInNumber lines = (j k : ℕ) → j < k → k < length lines → (line_at l
 
 -- what holds of each description that a configuration gives
 pub record IsAdmitted (raw : RawLists) : Type 0 where
-  pub few : length raw.names ≤ 64
+  pub few : length raw.names ≤ PROCESSOR_LIMIT
   pub sizes : (p : ℕ) → p < length raw.names → IsMemorySize (size_at raw.names p)
   pub links : (k : ℕ) → k < length (end_lines raw) → HasLinks (line_at (end_lines raw) k)
   pub numbers : DifferInNumber (end_lines raw)

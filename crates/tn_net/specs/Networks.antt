@@ -1,5 +1,6 @@
 -- Networks: the memories of the processors, what is at the far end of each link, and the host's end.
 use Rattle.std.specs.Prelude.{◌≡◌, ℕ, ◌+◌, ◌*◌, ◌<◌, ◌≤◌, ◌≢◌, ◌↔◌, List, map, length, slice_index, slice_index_or, Some}
+use Rattle.tn_text.specs.declared.limits.TheConstants.{PROCESSOR_LIMIT}
 use Rattle.tn_mem.specs.Sizes.{IsMemorySize}
 use Rattle.tn_net.specs.declared.lines.LinkEnd.{LinkEnd}
 use Rattle.tn_net.specs.declared.networks.Far.{Far}
@@ -27,7 +28,7 @@ pub record IsEnd (n : NetworkState) (p l : ℕ) : Type 0 where
 -- The links are paired one to one and both ways, no link with itself; the host has one end, which is
 -- paired with no other.
 pub record IsPairing (n : NetworkState) : Type 0 where
-  pub few : length n.sizes ≤ 64
+  pub few : length n.sizes ≤ PROCESSOR_LIMIT
   pub sizes : (p : ℕ) → p < length n.sizes → IsMemorySize (slice_index n.sizes p)
   pub room : length n.fars ≡ 4 * length n.sizes
   pub root : IsEnd n n.root n.root_link

@@ -1,4 +1,5 @@
 ghost use Rattle.std.specs.Prelude.{◌≡◌, ◌≤◌, ◌<◌, length, MatchOption, MatchResult};
+ghost use Rattle.tn_text.specs.declared.limits.TheConstants.{PROCESSOR_LIMIT};
 ghost use Rattle.tn_net.specs.Lines.{IsNamed, IsKnown, IsRepeated, AreDistinct};
 
 use crate::lines::{LinkEnd, Refusal};
@@ -31,7 +32,7 @@ pub fn first_repeated(names: &[(Name, u32, u32)]) -> Option<usize>
 
 /// The processor of an end.
 pub fn processor(names: &[(Name, u32, u32)], end: &LinkEnd) -> Result<u32, Refusal>
-    requires { length names.now ≤ 64 }
+    requires { length names.now ≤ PROCESSOR_LIMIT }
     ensures { MatchResult result (λ p. IsNamed names.now end.now.name p)
         (λ refusal. (IsKnown names.now end.now.name → ⊥) × (refusal ≡ Refusal.Unknown end.now)) }
 {

@@ -1,4 +1,5 @@
 ghost use Rattle.std.specs.Prelude.{◌≡◌, ◌+◌, ◌<◌, ◌≤◌, length, nat_eq, IfOk, OnOk};
+ghost use Rattle.tn_text.specs.declared.limits.TheConstants.{PROCESSOR_LIMIT};
 ghost use Rattle.std.specs.List.{list_any};
 ghost use Rattle.tn_net.specs.Networks.{IsPairing};
 ghost use Rattle.tn_net.specs.Inner.Walks.{AreReached};
@@ -21,7 +22,7 @@ pub struct Reached {
 /// and, among paths of one length, that of the links.
 pub fn walk(alloc: Global, network: &Network) -> Result<Vec<Reached>, AllocError>
     ensures reached { IfOk result (λ order. AreReached network.now order.items) }
-    ensures few { IfOk result (λ order. length order.items ≤ 64) }
+    ensures few { IfOk result (λ order. length order.items ≤ PROCESSOR_LIMIT) }
 {
     let (processor, boot_link) = network.root();
     let mut order = Vec::new(alloc);

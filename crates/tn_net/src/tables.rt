@@ -1,8 +1,8 @@
 ghost use Rattle.std.specs.Prelude.{◌≡◌, ℕ, ◌+◌, ◌*◌, ◌≤◌, ◌<◌, ◌≢◌, length, slice_set, MatchOption, MatchResult, IfOk};
+ghost use Rattle.tn_text.specs.declared.limits.TheConstants.{PROCESSOR_LIMIT};
 ghost use Rattle.tn_text.specs.declared.faults.ReadFault.TheVariants as read;
 ghost use Rattle.tn_net.specs.Lines.{AreDistinct, HasLinks, line_at, DifferInNumber};
-ghost use Rattle.tn_net.specs.Faults.{IsFirstWrong};
-ghost use Rattle.tn_net.specs.Inner.Tables.{entry, IsNext, AllBefore, Joins, Refuses, IsWired};
+ghost use Rattle.tn_net.specs.Inner.Tables.{entry, IsNext, AllBefore, Joins, Refuses, IsWired, IsFirstWrongLine};
 
 use crate::lines::{EndLine, LinkEnd, Refusal};
 use crate::names::processor;
@@ -18,12 +18,12 @@ pub fn wired(
     names: &[(Name, u32, u32)],
     lines: &[EndLine],
 ) -> Result<Vec<Far>, ReadFault>
-    requires few { length names.now ≤ 64 }
+    requires few { length names.now ≤ PROCESSOR_LIMIT }
     requires distinct { AreDistinct names.now (length names.now) }
     requires links { (k : ℕ) → k < length lines.now → HasLinks (line_at lines.now k) }
     requires numbers { DifferInNumber lines.now }
     ensures wired { IfOk result (λ fars. IsWired names.now lines.now fars.items) }
-    ensures fault { (fault : _) → result ≡ Err (read.Fault fault) → IsFirstWrong names.now lines.now fault }
+    ensures fault { (fault : _) → result ≡ Err (read.Fault fault) → IsFirstWrongLine names.now lines.now fault }
 {
     let mut fars = vec![in alloc; Far::Nothing; 4 * names.len()]?;
     let mut from: u64 = 0;
@@ -56,7 +56,7 @@ fn next_line(lines: &[EndLine], from: u64) -> Option<usize>
 
 /// Puts the ends of a line into the table.
 fn join(names: &[(Name, u32, u32)], line: &EndLine, fars: &mut [Far]) -> Result<(), Refusal>
-    requires few { length names.now ≤ 64 }
+    requires few { length names.now ≤ PROCESSOR_LIMIT }
     requires links { HasLinks line.now }
     requires room { length fars.old ≡ 4 * length names.now }
     ensures { MatchResult result (λ _. Joins names.now line.now fars.old fars.new)

@@ -1,4 +1,5 @@
 ghost use Rattle.std.specs.Prelude.{◌≡◌, ℕ, ◌+◌, ◌<◌, ◌≤◌, List, length, IfOk, MatchBool, MatchOption, Err};
+ghost use Rattle.tn_text.specs.declared.limits.TheConstants.{PROCESSOR_LIMIT};
 ghost use Rattle.tn_net.specs.declared.trees.TreeFault.TheVariants as tree;
 ghost use Rattle.tn_net.specs.Networks.{NetworkState};
 ghost use Rattle.tn_net.specs.Inner.Walks.{AreReached, step_at};
@@ -94,10 +95,10 @@ fn first_missing(order: &[Reached], count: u32) -> Option<u32>
 
 /// The nodes of the load tree with these steps.
 fn tree_nodes(alloc: Global, order: &[Reached]) -> Result<Vec<TreeNode>, AllocError>
-    requires few { length order.now ≤ 64 }
+    requires few { length order.now ≤ PROCESSOR_LIMIT }
     requires paths { (paths : List (List ℕ)) × ArePaths order.now paths }
     ensures tree { IfOk result (λ nodes. (n : NetworkState) → AreReached n order.now → AreThere n order.now → IsLoadTree n nodes.items) }
-    ensures few { IfOk result (λ nodes. length nodes.items ≤ 64) }
+    ensures few { IfOk result (λ nodes. length nodes.items ≤ PROCESSOR_LIMIT) }
 {
     let load = load_order(alloc, order)?;
     let parents = parents(alloc, order, &load)?;
@@ -142,7 +143,7 @@ fn is_family(order: &[Reached], parent: usize, place: usize) -> bool
 
 /// Where the parents of the steps stand in load order.
 fn parents(alloc: Global, order: &[Reached], load: &[usize]) -> Result<Vec<Option<u32>>, AllocError>
-    requires few { length load.now ≤ 64 }
+    requires few { length load.now ≤ PROCESSOR_LIMIT }
     requires paths { (paths : List (List ℕ)) × ArePaths order.now paths }
     requires whole { HasEachPlace load.now (length order.now) }
     ensures { IfOk result (λ parents. AreParents order.now load.now parents.items (length load.now)) }
@@ -156,7 +157,7 @@ fn parents(alloc: Global, order: &[Reached], load: &[usize]) -> Result<Vec<Optio
 
 /// Where the parent of the step at this place stands in load order.
 fn parent_of(order: &[Reached], load: &[usize], place: usize) -> Option<u32>
-    requires few { length load.now ≤ 64 }
+    requires few { length load.now ≤ PROCESSOR_LIMIT }
     requires here { place < length order.now }
     requires paths { (paths : List (List ℕ)) × ArePaths order.now paths }
     requires whole { HasEachPlace load.now (length order.now) }
@@ -170,7 +171,7 @@ fn parent_of(order: &[Reached], load: &[usize], place: usize) -> Option<u32>
 
 /// Where the place stands.
 fn position(load: &[usize], place: usize) -> u32
-    requires few { length load.now ≤ 64 }
+    requires few { length load.now ≤ PROCESSOR_LIMIT }
     requires there { (t : ℕ) × (t < length load.now) × (place_at load.now t ≡ place) }
     ensures here { result < length load.now }
     ensures is { place_at load.now result ≡ place }
@@ -190,7 +191,7 @@ fn nodes(
     load: &[usize],
     parents: &[Option<u32>],
 ) -> Result<Vec<TreeNode>, AllocError>
-    requires few { length load.now ≤ 64 }
+    requires few { length load.now ≤ PROCESSOR_LIMIT }
     requires room { length parents.now ≡ length load.now }
     requires places { (t : ℕ) → t < length load.now → place_at load.now t < length order.now }
     ensures { IfOk result (λ nodes. AreNodes order.now load.now parents.now nodes.items (length load.now)) }
@@ -209,7 +210,7 @@ fn node(
     parents: &[Option<u32>],
     k: usize,
 ) -> Result<TreeNode, AllocError>
-    requires few { length parents.now ≤ 64 }
+    requires few { length parents.now ≤ PROCESSOR_LIMIT }
     requires here { k < length parents.now }
     ensures { IfOk result (λ node. IsNodeOf step.now parents.now k node) }
 {
@@ -225,7 +226,7 @@ fn node(
 
 /// The places whose parent this one is.
 fn children_of(alloc: Global, parents: &[Option<u32>], k: u32) -> Result<Vec<u32>, AllocError>
-    requires { length parents.now ≤ 64 }
+    requires { length parents.now ≤ PROCESSOR_LIMIT }
     ensures { IfOk result (λ children. children.items ≡ children_below (λ c. parent_at parents.now c) k (length parents.now)) }
 {
     let mut children = Vec::new(alloc);

@@ -1,0 +1,5 @@
+pub mod Keeping
+pub mod Awaiting
+pub mod Pokes
+pub mod Boots
+pub mod Transfers

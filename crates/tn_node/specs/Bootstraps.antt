@@ -1,5 +1,5 @@
 -- The bootstrap of a processor, after the T425 data sheet: what it does with a byte of its boot link.
-use Rattle.std.specs.Prelude.{ℕ, ◌+◌, ◌-◌, ◌*◌, ◌/◌, ◌^◌, ◌==◌, nat_lt, Result, Ok, Err, if◌then◌else◌}
+use Rattle.std.specs.Prelude.{false, ℕ, ◌+◌, ◌-◌, ◌*◌, ◌%◌, ◌^◌, ◌==◌, nat_lt, Result, Ok, Err, if◌then◌else◌}
 use Rattle.tn_mem.specs.declared.touches.Touch.{Touch}
 use Rattle.tn_mem.specs.Spaces.{Access}
 use Rattle.tn_word.specs.Words.{mem_start}
@@ -21,16 +21,16 @@ follow control = if control == 0 then 8 else (if control == 1 then 4 else contro
 abbrev pub began : {M : Type 0} → ℕ → ℕ → NodeState M → NodeState M
 began l control n = record n { stage = stage_of control; expects = record nothing_expected { link = l; left = follow control } }
 
--- a word that a byte comes into from above, so that four bytes, the lowest first, make it
-abbrev pub shifted_in : ℕ → ℕ → ℕ
-shifted_in byte word = word / 256 + byte * 2 ^ 24
+-- a word of whose bytes, the lowest first, those below a place are known, with the byte at that place
+abbrev pub with_byte : ℕ → ℕ → ℕ → ℕ
+with_byte place byte word = word % 256 ^ place + byte * 256 ^ place
 
 -- a byte of the address, which comes first, or of the word
 abbrev pub gathered : ℕ → Expects → Expects
 gathered byte e =
     if nat_lt e.got 4
-    then record e { address = shifted_in byte e.address; got = e.got + 1; left = e.left - 1 }
-    else record e { word = shifted_in byte e.word; got = e.got + 1; left = e.left - 1 }
+    then record e { address = with_byte e.got byte e.address; got = e.got + 1; left = e.left - 1 }
+    else record e { word = with_byte (e.got - 4) byte e.word; got = e.got + 1; left = e.left - 1 }
 
 -- the memory refused what a bootstrap asked of it
 abbrev pub refused : {M : Type 0} → Touch → NodeState M → NodeState M
@@ -41,16 +41,17 @@ abbrev pub poked : {M : Type 0} → Result M Touch → NodeState M → NodeState
 poked (Ok m) n = record n { cpu = record n.cpu { memory = m }; stage = Reset; expects = nothing_expected }
 poked (Err touch) n = refused touch n
 
--- after a peek it replies with the word
-abbrev pub peeked : {M : Type 0} → Result ℕ Touch → ℕ → NodeState M → NodeState M
-peeked (Ok word) l n = record n { stage = Replying; expects = record nothing_expected { link = l; word = word } }
-peeked (Err touch) l n = refused touch n
+-- after a peek of an address by a link it replies with the word
+abbrev pub peeked : {M : Type 0} → Result ℕ Touch → ℕ → ℕ → NodeState M → NodeState M
+peeked (Ok word) l address n =
+    record n { stage = Replying; expects = record { link = l; got = 0; left = 4; address = address; word = word; sent = false } }
+peeked (Err touch) l address n = refused touch n
 
 abbrev pub poking : {M : Type 0} → Access M → Expects → NodeState M → NodeState M
 poking access e n = if e.left == 0 then poked (access.set_word n.cpu.memory e.address e.word) n else record n { expects = e }
 
 abbrev pub peeking : {M : Type 0} → Access M → Expects → NodeState M → NodeState M
-peeking access e n = if e.left == 0 then peeked (access.word n.cpu.memory e.address) e.link n else record n { expects = e }
+peeking access e n = if e.left == 0 then peeked (access.word n.cpu.memory e.address) e.link e.address n else record n { expects = e }
 
 -- behind the last byte of a bootstrap it runs
 abbrev pub boot_stored : {M : Type 0} → Result M Touch → Expects → NodeState M → NodeState M

@@ -3,3 +3,4 @@ pub mod Nodes
 pub mod Bootstraps
 pub mod Links
 pub mod Runs
+pub mod WholeActs

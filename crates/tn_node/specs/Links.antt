@@ -1,5 +1,6 @@
 -- What a node does on a link: the byte that it offers, the bytes that it takes, and what follows.
-use Rattle.std.specs.Prelude.{ℕ, ◌+◌, ◌==◌, Bool, true, false, not, ◌&&◌, nat_lt, Option, Some, None, is_some, slice_index_or, slice_set, if◌then◌else◌}
+use Rattle.std.specs.Prelude.{ℕ, ◌+◌, ◌-◌, ◌==◌, Bool, true, false, not, ◌&&◌, nat_lt, Option, Some, None, is_some, slice_index_or}
+use Rattle.std.specs.Prelude.{slice_set, if◌then◌else◌}
 use Rattle.std.specs.Result.{result_unwrap_or}
 use Rattle.std.specs.Int.{w32, to_le_bytes}
 use Rattle.tn_mem.specs.Spaces.{Access}
@@ -58,10 +59,10 @@ engine_sent None = None
 engine_sent (Some e) = Some (record (moved e) { sent = true })
 
 -- the byte that was offered has gone out, and is not acknowledged
-unfoldable pub sent : {M : Type 0} → ℕ → NodeState M → NodeState M
-sent l n =
+unfoldable pub marked_sent : {M : Type 0} → ℕ → NodeState M → NodeState M
+marked_sent l n =
     if is_reply l n
-    then record n { expects = record n.expects { got = n.expects.got + 1; sent = true } }
+    then record n { expects = record n.expects { got = n.expects.got + 1; left = n.expects.left - 1; sent = true } }
     else record n { outputs = slice_set n.outputs l (engine_sent (engine_of n.outputs l)) }
 
 -- whether a byte of a link is not acknowledged
@@ -115,4 +116,5 @@ is_booting Booting = true
 
 -- the node after a byte on a link
 unfoldable pub taken : {M : Type 0} → Access M → ℕ → ℕ → NodeState M → NodeState M
-taken access l byte n = if is_booting n.stage then bootstrapped access n.stage l byte n else engine_taken access l byte (engine_of n.inputs l) n
+taken access l byte n =
+    if is_booting n.stage then bootstrapped access n.stage l byte n else engine_taken access l byte (engine_of n.inputs l) n

@@ -1,5 +1,5 @@
 -- A processor with its bootstrap and the engines of its links.
-use Rattle.std.specs.Prelude.{◌≡◌, ⊤, ◌+◌, ◌≤◌, false, List, [], ◌∷◌, Option, None}
+use Rattle.std.specs.Prelude.{◌≡◌, ℕ, ◌+◌, ◌≤◌, ◌<◌, Bool, true, false, List, [], ◌∷◌, length, Option, Some, None}
 use Rattle.tn_cpu.specs.declared.outcomes.Life.{Life}
 use Rattle.tn_cpu.specs.declared.outcomes.Life.TheVariants.{Running as LifeRunning, Idle as LifeIdle, Stopped as LifeStopped}
 use Rattle.tn_cpu.specs.States.{State, over_memory}
@@ -30,15 +30,16 @@ all_closed = None ∷ None ∷ None ∷ None ∷ []
 
 -- no engine of the four links is open
 abbrev pub AreClosed : List (Option Engine) → Type 0
-AreClosed engines = (engine_of engines 0 ≡ None) × (engine_of engines 1 ≡ None) × (engine_of engines 2 ≡ None) × (engine_of engines 3 ≡ None)
+AreClosed engines =
+    (engine_of engines 0 ≡ None) × (engine_of engines 1 ≡ None) × (engine_of engines 2 ≡ None) × (engine_of engines 3 ≡ None)
 
 -- no engine of the node is open
 abbrev pub IsQuiet : {M : Type 0} → NodeState M → Type 0
 IsQuiet n = AreClosed n.inputs × AreClosed n.outputs
 
 -- after power-up
-abbrev pub reset : {M : Type 0} → State M → NodeState M
-reset cpu = record { cpu = cpu; stage = Reset; expects = nothing_expected; inputs = all_closed; outputs = all_closed }
+abbrev pub reset_node : {M : Type 0} → State M → NodeState M
+reset_node cpu = record { cpu = cpu; stage = Reset; expects = nothing_expected; inputs = all_closed; outputs = all_closed }
 
 -- what a processor does that was booted
 abbrev pub mode_of_life : Life → Mode
@@ -59,20 +60,65 @@ mode_at Over life = mode_of_life life
 abbrev pub mode_of : {M : Type 0} → NodeState M → Mode
 mode_of n = mode_at n.stage n.cpu.life
 
--- a bootstrap that takes bytes expects one at least, and a reply none
-abbrev pub ExpectsSome : Stage → Expects → Type 0
-ExpectsSome Reset e = ⊤
-ExpectsSome Poking e = 1 ≤ e.left
-ExpectsSome Peeking e = 1 ≤ e.left
-ExpectsSome Replying e = e.left ≡ 0
-ExpectsSome Booting e = 1 ≤ e.left
-ExpectsSome (Refused why) e = ⊤
-ExpectsSome Over e = ⊤
+-- whether its processor has been booted
+abbrev pub is_over : Stage → Bool
+is_over Reset = false
+is_over Poking = false
+is_over Peeking = false
+is_over Replying = false
+is_over Booting = false
+is_over (Refused why) = false
+is_over Over = true
 
--- what holds of each node: no bootstrap is longer than 255 bytes, and one that takes bytes expects one
-pub record IsNode (stage : Stage) (expects : Expects) : Type 0 where
-  pub some : ExpectsSome stage expects
-  pub bounded : expects.got + expects.left ≤ 255
+-- of how many bytes of a poke, a peek, a reply or a bootstrap some are done and some are left. A poke, a
+-- peek and a bootstrap take one more at least; a reply has one more to send, or one that is not
+-- acknowledged
+pub record IsUnderWay (bytes : ℕ) (e : Expects) : Type 0 where
+  pub all : e.got + e.left ≡ bytes
+  pub some : 1 ≤ e.left
+  pub unsent : e.sent ≡ false
+
+pub record IsReply (e : Expects) : Type 0 where
+  pub all : e.got + e.left ≡ 4
+  pub some : e.sent ≡ false → 1 ≤ e.left
+  pub begun : e.sent ≡ true → 1 ≤ e.got
+
+-- the length of a bootstrap
+pub record IsBootstrap (e : Expects) : Type 0 where
+  pub least : 2 ≤ e.got + e.left
+  pub most : e.got + e.left ≤ 255
+  pub some : 1 ≤ e.left
+  pub unsent : e.sent ≡ false
+
+-- what a bootstrap expects at each stage
+abbrev pub ExpectsAt : Stage → Expects → Type 0
+ExpectsAt Reset e = e ≡ nothing_expected
+ExpectsAt Poking e = IsUnderWay 8 e
+ExpectsAt Peeking e = IsUnderWay 4 e
+ExpectsAt Replying e = IsReply e
+ExpectsAt Booting e = IsBootstrap e
+ExpectsAt (Refused why) e = e ≡ nothing_expected
+ExpectsAt Over e = e ≡ nothing_expected
+
+-- four engines for input, and four for output: an open one has a byte left, or has sent one that is
+-- not acknowledged
+pub record AreInputs (engines : List (Option Engine)) : Type 0 where
+  pub four : length engines ≡ 4
+  pub some : (l : ℕ) (e : Engine) → engine_of engines l ≡ Some e → 1 ≤ e.left
+
+pub record AreOutputs (engines : List (Option Engine)) : Type 0 where
+  pub four : length engines ≡ 4
+  pub some : (l : ℕ) (e : Engine) → engine_of engines l ≡ Some e → e.sent ≡ false → 1 ≤ e.left
+
+-- What holds of each node: its bootstrap expects what its stage says, by one of the four links; it has
+-- four engines of each kind, and none is open before its processor is booted.
+pub record IsNode {M : Type 0} (n : NodeState M) : Type 0 where
+  pub expected : ExpectsAt n.stage n.expects
+  pub link : n.expects.link < 4
+  pub inputs : AreInputs n.inputs
+  pub outputs : AreOutputs n.outputs
+  pub closed_inputs : is_over n.stage ≡ false → n.inputs ≡ all_closed
+  pub closed_outputs : is_over n.stage ≡ false → n.outputs ≡ all_closed
 
 -- the same node over another memory
 abbrev pub node_over : {M N : Type 0} → N → NodeState M → NodeState N

@@ -16,7 +16,8 @@ use Rattle.tn_node.specs.Nodes.{NodeState}
 abbrev pub busy : {M : Type 0} → NodeState M → ℕ
 busy n =
     bit_of 1 (engine_of n.inputs 0) + bit_of 2 (engine_of n.inputs 1) + bit_of 4 (engine_of n.inputs 2) + bit_of 8 (engine_of n.inputs 3)
-    + (bit_of 16 (engine_of n.outputs 0) + bit_of 32 (engine_of n.outputs 1) + bit_of 64 (engine_of n.outputs 2) + bit_of 128 (engine_of n.outputs 3))
+    + (bit_of 16 (engine_of n.outputs 0) + bit_of 32 (engine_of n.outputs 1) + bit_of 64 (engine_of n.outputs 2) + bit_of 128
+    (engine_of n.outputs 3))
 
 -- what the outcome of a step does to the engines, and what was made
 abbrev pub with_outcome : {M : Type 0} → Outcome → NodeState M → NodeState M
@@ -38,10 +39,10 @@ abbrev pub ended : {M : Type 0} → Ended M → NodeState M → NodeState M
 ended e n = with_outcome e.outcome (record n { cpu = e.state })
 
 -- one instruction byte
-unfoldable pub ran : {M : Type 0} → Access M → Bool → ℕ → NodeState M → Ended M
-ran access slice clock n = step access (busy n) slice clock n.cpu
+unfoldable pub node_step : {M : Type 0} → Access M → Bool → ℕ → NodeState M → Ended M
+node_step access slice clock n = step access (busy n) slice clock n.cpu
 
 -- one whole instruction, behind which the address of the next one lies
-unfoldable pub ran_item : {M : Type 0} → Access M → Fun → ℕ → ℕ → Bool → ℕ → NodeState M → Ended M
-ran_item access fun operand following slice clock n =
+unfoldable pub node_item_step : {M : Type 0} → Access M → Fun → ℕ → ℕ → Bool → ℕ → NodeState M → Ended M
+node_item_step access fun operand following slice clock n =
     effect access fun operand (record { following = following; busy = busy n; slice = slice; clock = clock }) n.cpu

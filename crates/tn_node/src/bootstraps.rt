@@ -1,7 +1,9 @@
-ghost use Rattle.std.specs.Prelude.{◌≡◌, ◌<◌, ◌≤◌, ◌+◌, IfSome};
+ghost use Rattle.std.specs.Prelude.{◌≡◌, ◌<◌, ◌≤◌, ◌+◌, IfSome, false};
 ghost use Rattle.tn_node.specs.declared.modes.Stage.TheVariants as stage;
 ghost use Rattle.tn_word.specs.Words.{mem_start};
-ghost use Rattle.tn_node.specs.Bootstraps.{stage_of, follow, began, shifted_in, gathered, refused, poked, peeked, poking, peeking, boot_stored};
+ghost use Rattle.tn_node.specs.Nodes.{is_over, IsNode};
+ghost use Rattle.tn_node.specs.Bootstraps.{stage_of, follow, began, with_byte, gathered, refused, poked, peeked, poking, peeking};
+ghost use Rattle.tn_node.specs.Bootstraps.{boot_stored};
 
 use crate::modes::{Expects, Stage};
 use crate::nodes::{NOTHING, Node};
@@ -13,6 +15,8 @@ use tn_word::MEM_START;
 impl<M: Space> Node<M> {
     /// Takes the control byte, by link `l`.
     pub(crate) fn begin(&mut self, l: u8, control: u8)
+        requires stage { self.old.stage ≡ stage.Reset }
+        requires link { l < 4 }
         ensures { self.new ≡ began l control self.old }
     {
         self.stage = stage_of(control);
@@ -26,7 +30,8 @@ impl<M: Space> Node<M> {
     /// Takes a byte of a poke. The word is stored behind the last.
     pub(crate) fn poke(&mut self, byte: u8)
         requires { self.old.stage ≡ stage.Poking }
-        ensures { self.new ≡ poking M.access (gathered byte self.old.expects) self.old }
+        ensures state { self.new ≡ poking M.access (gathered byte self.old.expects) self.old }
+        ensures node { IsNode self.new }
     {
         let expects = gathered(byte, self.expects);
         if expects.left > 0 {
@@ -57,6 +62,8 @@ impl<M: Space> Node<M> {
                 self.stage = Stage::Replying;
                 self.expects = Expects {
                     link: expects.link,
+                    left: 4,
+                    address: expects.address,
                     word,
                     ..NOTHING
                 };
@@ -68,7 +75,9 @@ impl<M: Space> Node<M> {
     /// Takes a byte of a bootstrap. Behind the last it runs.
     pub(crate) fn boot(&mut self, byte: u8)
         requires { self.old.stage ≡ stage.Booting }
-        ensures { self.new ≡ boot_stored (M.access.set_byte self.old.cpu.memory (mem_start + self.old.expects.got) byte) self.old.expects self.old }
+        ensures state { let made = M.access.set_byte self.old.cpu.memory (mem_start + self.old.expects.got) byte in
+            self.new ≡ boot_stored made self.old.expects self.old }
+        ensures node { IsNode self.new }
     {
         let expects = self.expects;
         if let Err(touch) = self.cpu.store_byte(MEM_START + expects.got, byte) {
@@ -90,7 +99,9 @@ impl<M: Space> Node<M> {
 
     /// Stops where the memory refused what the bootstrap asked of it.
     fn refuse(&mut self, touch: Touch)
-        ensures { self.new ≡ refused touch self.old }
+        requires { is_over self.old.stage ≡ false }
+        ensures state { self.new ≡ refused touch self.old }
+        ensures node { IsNode self.new }
     {
         self.stage = Stage::Refused(match touch {
             Touch::Outside => Why::Outside,
@@ -123,29 +134,35 @@ fn follow(control: u8) -> u32
     }
 }
 
-/// A word that a byte comes into from above.
-fn shifted_in(byte: u8, word: u32) -> u32
-    ensures { result ≡ shifted_in byte word }
+/// A word with the byte at a place, the lowest at 0; those below are known, and those above are 0.
+fn with_byte(place: u32, byte: u8, word: u32) -> u32
+    requires { place < 4 }
+    ensures { result ≡ with_byte place byte word }
 {
-    word / 256 + u32::from(byte) * 0x0100_0000
+    match place {
+        0 => u32::from(byte),
+        1 => word % 0x100 + u32::from(byte) * 0x100,
+        2 => word % 0x1_0000 + u32::from(byte) * 0x1_0000,
+        _ => word % 0x100_0000 + u32::from(byte) * 0x100_0000,
+    }
 }
 
 /// What a poke or a peek has with one byte more: of its address first, then of its word.
 fn gathered(byte: u8, expects: Expects) -> Expects
-    requires { expects.got + expects.left ≤ 255 }
+    requires { expects.got < 8 }
     ensures { result ≡ gathered byte expects }
 {
     let (got, left) = (expects.got + 1, expects.left.saturating_sub(1));
     if expects.got < 4 {
         Expects {
-            address: shifted_in(byte, expects.address),
+            address: with_byte(expects.got, byte, expects.address),
             got,
             left,
             ..expects
         }
     } else {
         Expects {
-            word: shifted_in(byte, expects.word),
+            word: with_byte(expects.got - 4, byte, expects.word),
             got,
             left,
             ..expects

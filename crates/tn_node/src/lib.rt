@@ -8,8 +8,6 @@ mod links;
 mod modes;
 mod nodes;
 mod runs;
-#[cfg(test)]
-mod tests;
 
 pub use engines::{Engine, LinkView};
 pub use modes::{Expects, Made, Mode};

@@ -1,6 +1,9 @@
 ghost use Rattle.std.specs.Prelude.{◌≡◌, ◌<◌, true, IsSome};
+ghost use Rattle.tn_node.specs.declared.modes.Stage.TheVariants as stage;
 ghost use Rattle.tn_node.specs.Engines.{engine_of, moved};
-ghost use Rattle.tn_node.specs.Links.{wants, is_reply, reply_byte, output_byte, offers, engine_sent, sent, awaits, reply_acknowledged, engine_acknowledged, acknowledged, engine_taken, byte_stored, taken};
+ghost use Rattle.tn_node.specs.Nodes.{IsNode};
+ghost use Rattle.tn_node.specs.Links.{wants, is_reply, reply_byte, output_byte, offers, engine_sent, marked_sent, awaits};
+ghost use Rattle.tn_node.specs.Links.{reply_acknowledged, engine_acknowledged, acknowledged, engine_taken, byte_stored, taken};
 
 use crate::engines::Engine;
 use crate::modes::{Expects, Stage};
@@ -38,14 +41,16 @@ impl<M: Space> Node<M> {
     }
 
     /// Marks the byte that it offers on link `l` as gone out, and not yet acknowledged.
-    #[tactic(auto, unfolding(crate::specs::Links::sent, crate::specs::Links::offers))]
+    #[tactic(auto, unfolding(crate::specs::Links::marked_sent, crate::specs::Links::offers))]
     pub fn mark_sent(&mut self, l: u8)
         requires link { l < 4 }
         requires offered { IsSome (offers M.access l self.old) }
-        ensures { self.new ≡ sent l self.old }
+        ensures state { self.new ≡ marked_sent l self.old }
+        ensures node { IsNode self.new }
     {
         if self.is_reply(l) {
             self.expects.got += 1;
+            self.expects.left -= 1;
             self.expects.sent = true;
         } else {
             self.outputs[usize::from(l)] = engine_sent(self.outputs[usize::from(l)]);
@@ -58,7 +63,8 @@ impl<M: Space> Node<M> {
     pub fn take(&mut self, l: u8, byte: u8)
         requires link { l < 4 }
         requires wanted { wants l self.old ≡ true }
-        ensures { self.new ≡ taken M.access l byte self.old }
+        ensures state { self.new ≡ taken M.access l byte self.old }
+        ensures node { IsNode self.new }
     {
         match self.stage {
             Stage::Reset => self.begin(l, byte),
@@ -66,7 +72,7 @@ impl<M: Space> Node<M> {
             Stage::Peeking => self.peek(byte),
             Stage::Booting => self.boot(byte),
             Stage::Replying => {}
-            Stage::Refused(_) | Stage::Over => self.take_in(l, byte, self.inputs[usize::from(l)]),
+            Stage::Refused(_) | Stage::Over => self.take_in(l, byte),
         }
     }
 
@@ -77,12 +83,13 @@ impl<M: Space> Node<M> {
     pub fn acknowledge(&mut self, l: u8)
         requires link { l < 4 }
         requires awaited { awaits l self.old ≡ true }
-        ensures { self.new ≡ acknowledged M.access l self.old }
+        ensures state { self.new ≡ acknowledged M.access l self.old }
+        ensures node { IsNode self.new }
     {
         if self.is_reply(l) {
             self.end_reply();
         } else {
-            self.end_output(l, self.outputs[usize::from(l)]);
+            self.end_output(l);
         }
     }
 
@@ -109,11 +116,11 @@ impl<M: Space> Node<M> {
     }
 
     /// Takes a byte for an input engine.
-    fn take_in(&mut self, l: u8, byte: u8, engine: Option<Engine>)
+    fn take_in(&mut self, l: u8, byte: u8)
         requires { l < 4 }
-        ensures { self.new ≡ engine_taken M.access l byte engine self.old }
+        ensures { self.new ≡ engine_taken M.access l byte (engine_of self.old.inputs l) self.old }
     {
-        let Some(engine) = engine else {
+        let Some(engine) = self.inputs[usize::from(l)] else {
             return;
         };
         self.store_tested(engine.pointer, byte);
@@ -134,7 +141,9 @@ impl<M: Space> Node<M> {
 
     /// Notes the acknowledge of a byte of a reply.
     fn end_reply(&mut self)
-        ensures { self.new ≡ reply_acknowledged self.old }
+        requires { self.old.stage ≡ stage.Replying }
+        ensures state { self.new ≡ reply_acknowledged self.old }
+        ensures node { IsNode self.new }
     {
         if self.expects.got == 4 {
             self.stage = Stage::Reset;
@@ -145,11 +154,12 @@ impl<M: Space> Node<M> {
     }
 
     /// Notes the acknowledge of a byte of an output engine.
-    fn end_output(&mut self, l: u8, engine: Option<Engine>)
+    fn end_output(&mut self, l: u8)
         requires { l < 4 }
-        ensures { self.new ≡ engine_acknowledged M.access l engine self.old }
+        ensures state { self.new ≡ engine_acknowledged M.access l (engine_of self.old.outputs l) self.old }
+        ensures node { IsNode self.new }
     {
-        let Some(engine) = engine else {
+        let Some(engine) = self.outputs[usize::from(l)] else {
             return;
         };
         if engine.left == 0 {

@@ -42,11 +42,12 @@ pub struct Expects {
     pub link: u8,
     /// How many bytes it has taken behind the control byte, or sent of a reply.
     pub got: u32,
-    /// How many bytes it still takes.
+    /// How many bytes it still takes, or sends of a reply.
     pub left: u32,
-    /// The address of a poke or a peek, whose bytes come in from above, the lowest first.
+    /// The address of a poke, a peek or a reply: of its bytes, the lowest first, those taken so far,
+    /// and 0 for the others.
     pub address: u32,
-    /// The word of a poke, which comes in likewise, or that of a reply.
+    /// The word of a poke, likewise, or that of a reply.
     pub word: u32,
     /// Whether a byte of a reply is not acknowledged yet.
     pub sent: bool,

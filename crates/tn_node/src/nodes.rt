@@ -1,6 +1,6 @@
 ghost use Rattle.std.specs.Prelude.{◌≡◌, ◌<◌, IfOk};
 ghost use Rattle.tn_node.specs.Engines.{engine_of};
-ghost use Rattle.tn_node.specs.Nodes.{nothing_expected, reset, mode_of_life, mode_of, node_over, IsQuiet};
+ghost use Rattle.tn_node.specs.Nodes.{nothing_expected, reset_node, mode_of_life, mode_of, node_over, IsQuiet, IsNode};
 
 use crate::engines::{Engine, LinkView};
 use crate::modes::{Expects, Mode, Stage};
@@ -39,13 +39,14 @@ impl<M: Space> Model for Node<M> {
 
     ghost view = { λ n. record { cpu = n.cpu; stage = n.stage; expects = n.expects; inputs = n.inputs; outputs = n.outputs } };
 
-    ghost invariant = { λ n. IsNode n.stage n.expects };
+    ghost invariant = { λ n. IsNode (record { cpu = n.cpu; stage = n.stage; expects = n.expects; inputs = n.inputs; outputs = n.outputs }) };
 }
 
 impl<M: Space> Node<M> {
     /// A node after power-up: it takes a control byte from any link, and no engine is open.
     pub fn power_up(cpu: Cpu<M>) -> Node<M>
-        ensures { result ≡ reset cpu }
+        ensures value { result ≡ reset_node cpu }
+        ensures node { IsNode result }
     {
         Node {
             cpu,
@@ -58,7 +59,8 @@ impl<M: Space> Node<M> {
 
     /// What it does.
     pub fn mode(&self) -> Mode
-        ensures { result ≡ mode_of self.now }
+        ensures value { result ≡ mode_of self.now }
+        ensures node { IsNode self.now }
     {
         match self.stage {
             Stage::Reset => Mode::Reset,

@@ -2,8 +2,9 @@ ghost use Rattle.std.specs.Prelude.{◌≡◌};
 ghost use Rattle.tn_prefix.specs.Coding.{IsCoded};
 ghost use Rattle.tn_cpu.specs.OutcomeLaws.{OpensLink};
 ghost use Rattle.tn_node.specs.declared.modes.Mode.TheVariants as mode;
-ghost use Rattle.tn_node.specs.Nodes.{mode_of};
-ghost use Rattle.tn_node.specs.Runs.{busy, with_outcome, made_by, ended, ran, ran_item};
+ghost use Rattle.tn_node.specs.declared.modes.Stage.TheVariants as stage;
+ghost use Rattle.tn_node.specs.Nodes.{mode_of, IsNode};
+ghost use Rattle.tn_node.specs.Runs.{busy, with_outcome, made_by, ended, node_step, node_item_step};
 
 use crate::engines::{Engine, bit_of};
 use crate::modes::Made;
@@ -17,11 +18,12 @@ impl<M: Space> Node<M> {
     /// Executes the instruction byte at the instruction pointer. `slice` lets another process take
     /// its turn at `j` and `lend`, and `clock` is what `ldtimer` pushes. It answers whether the byte
     /// was a prefix or the last of an instruction.
-    #[tactic(auto, unfolding(crate::specs::Runs::ran))]
+    #[tactic(auto, unfolding(crate::specs::Runs::node_step))]
     pub fn run(&mut self, slice: bool, clock: u32) -> Made
         requires { mode_of self.old ≡ mode.Running }
-        ensures state { self.new ≡ ended (ran M.access slice clock self.old) self.old }
-        ensures made { result ≡ made_by (ran M.access slice clock self.old).outcome }
+        ensures state { self.new ≡ ended (node_step M.access slice clock self.old) self.old }
+        ensures node { IsNode self.new }
+        ensures made { result ≡ made_by (node_step M.access slice clock self.old).outcome }
     {
         let busy = self.busy();
         let outcome = self.cpu.step(busy, slice, clock);
@@ -30,7 +32,7 @@ impl<M: Space> Node<M> {
     }
 
     /// Executes a whole instruction, where `following` is the address of the next one.
-    #[tactic(auto, unfolding(crate::specs::Runs::ran_item))]
+    #[tactic(auto, unfolding(crate::specs::Runs::node_item_step))]
     pub fn run_item(
         &mut self,
         fun: Fun,
@@ -41,8 +43,9 @@ impl<M: Space> Node<M> {
     ) -> Made
         requires running { mode_of self.old ≡ mode.Running }
         requires coded { IsCoded fun }
-        ensures state { self.new ≡ ended (ran_item M.access fun operand following slice clock self.old) self.old }
-        ensures made { result ≡ made_by (ran_item M.access fun operand following slice clock self.old).outcome }
+        ensures state { self.new ≡ ended (node_item_step M.access fun operand following slice clock self.old) self.old }
+        ensures node { IsNode self.new }
+        ensures made { result ≡ made_by (node_item_step M.access fun operand following slice clock self.old).outcome }
     {
         let busy = self.busy();
         let outcome = self
@@ -65,8 +68,10 @@ impl<M: Space> Node<M> {
 
     /// Opens the engine that an instruction asked for.
     fn open(&mut self, outcome: Outcome)
-        requires { OpensLink outcome }
-        ensures { self.new ≡ with_outcome outcome self.old }
+        requires outcome { OpensLink outcome }
+        requires stage { self.old.stage ≡ stage.Over }
+        ensures state { self.new ≡ with_outcome outcome self.old }
+        ensures node { IsNode self.new }
     {
         match outcome {
             Outcome::OpensIn(transfer) => {

@@ -8,7 +8,9 @@ use Rattle.tn_net.specs.declared.lines.Refusal.TheVariants.{Unknown, Taken}
 use Rattle.tn_net.specs.declared.networks.Far.{Far}
 use Rattle.tn_net.specs.declared.networks.Far.TheVariants.{Nothing, Host, Link}
 use Rattle.tn_net.specs.Lines.{IsNamed, IsKnown, line_at, IsTakenBefore, Wires}
-use Rattle.tn_net.specs.Faults.{unknown, twice, AreRight}
+use Rattle.tn_text.specs.declared.faults.Fault.{Fault}
+use Rattle.tn_text.specs.Faults.{fault_at}
+use Rattle.tn_net.specs.Faults.{unknown, twice, IsRight, IsWrongLine, AreRight}
 use Rattle.tn_net.specs.Networks.{end_of}
 
 -- what stands in the table for link l of processor p
@@ -83,3 +85,12 @@ pub record IsWired (names : List (List ℕ × ℕ × ℕ)) (lines : List EndLine
   pub all : AllBefore lines number (length lines)
   pub right : AreRight names lines
   pub table : IsTable names lines number fars
+
+-- the fault is that of the first line, by its number, with something wrong
+pub record IsFirstWrongLine (names : List (List ℕ × ℕ × ℕ)) (lines : List EndLine) (fault : Fault) : Type 0 where
+  pub place : ℕ
+  pub here : place < length lines
+  pub before : (k : ℕ) → k < length lines → (line_at lines k).line < (line_at lines place).line → IsRight names lines (line_at lines k)
+  pub cause : Cause
+  pub wrong : IsWrongLine names lines (line_at lines place) cause
+  pub told : fault ≡ fault_at (line_at lines place).line cause

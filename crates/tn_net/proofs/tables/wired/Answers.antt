@@ -3,14 +3,14 @@ use Rattle.std.proofs.lemmas.List.{with_items_is}
 use Rattle.tn_text.specs.Faults.{fault_at}
 use Rattle.tn_net.specs.declared.lines.EndLine.{EndLine}
 use Rattle.tn_net.specs.Lines.{line_at, HasLinks}
-use Rattle.tn_net.specs.Faults.{IsRight, IsWrong, IsFirstWrong}
-use Rattle.tn_net.specs.Inner.Tables.{IsTable, Joins, Refuses, cause_of}
+use Rattle.tn_net.specs.Faults.{IsRight, IsWrongLine}
+use Rattle.tn_net.specs.Inner.Tables.{IsTable, Joins, Refuses, cause_of, IsFirstWrongLine}
 use Rattle.tn_net.proofs.Reading.{joined_table, joins_right, refused_wrong, right_more, first_wrong, line_read}
 use Rattle.tn_net.proofs.tables.wired.Goals as goal
 
 pub returns-in-Err-clause-fault : goal.returns-in-Err-clause-fault
 returns-in-Err-clause-fault c =
-    λ fault is. let e : c.at.result ≡ fault = cc in subst (λ f. IsFirstWrong c.args.names.now c.args.lines.now f) (told ∙ e)
+    λ fault is. let e : c.at.result ≡ fault = cc in subst (λ f. IsFirstWrongLine c.args.names.now c.args.lines.now f) (told ∙ e)
     (first_wrong c.args.names.now c.args.lines.now c.loop-k.from c.in-Some.k
     (cause_of c.in-Err.refusal) c.in-Some.ensures c.loop-k.invariant.1 wrong)
   where
@@ -21,7 +21,7 @@ returns-in-Err-clause-fault c =
     table =
         subst (λ fars. IsTable c.args.names.now c.args.lines.now c.loop-k.from fars) (sym c.deref_mut.ensures.value) c.loop-k.invariant.0
 
-    wrong : IsWrong c.args.names.now c.args.lines.now (line_at c.args.lines.now c.in-Some.k) (cause_of c.in-Err.refusal)
+    wrong : IsWrongLine c.args.names.now c.args.lines.now (line_at c.args.lines.now c.in-Some.k) (cause_of c.in-Err.refusal)
     wrong =
         refused_wrong c.args.names.now c.args.lines.now c.loop-k.from c.in-Some.k c.deref_mut.result.now c.in-Err.refusal
         (c.requires.links c.in-Some.k c.in-Some.ensures.here) table c.in-Some.ensures

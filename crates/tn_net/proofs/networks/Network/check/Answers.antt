@@ -5,7 +5,9 @@ use Rattle.tn_text.specs.declared.faults.FaultCode.TheVariants.{NoHost}
 use Rattle.tn_text.specs.Faults.{fault_at, bare}
 use Rattle.tn_net.specs.RawNetworks.{raw_of}
 use Rattle.tn_net.specs.Lines.{line_of, name_at, IsKnown, IsRepeated, AreDistinct, end_lines}
-use Rattle.tn_net.specs.Faults.{IsFaultless, IsNetworkFault, IsFirstWrong, duplicate, repeated, wrong, hostless}
+use Rattle.tn_net.specs.Faults.{IsFaultless, IsNetworkFault, duplicate}
+use Rattle.tn_net.specs.Inner.Tables.{IsFirstWrongLine}
+use Rattle.tn_net.proofs.FirstFaults.{repeated, wrong, hostless}
 use Rattle.tn_net.specs.Inner.Tables.{IsWired}
 use Rattle.tn_net.proofs.Faultless.{faultless_or_fault, one_first_fault, gives_first}
 use Rattle.tn_net.proofs.Joining.{error_is, no_value}
@@ -36,8 +38,8 @@ wired-requires-clause-distinct c =
 pub returns-in_err-fars-clause-fault : goal.returns-in_err-fars-clause-fault
 returns-in_err-fars-clause-fault c = λ fault is.
     wrong (subst (λ names. AreDistinct names (length names)) c.deref.ensures.value c.in_default.ensures)
-    (subst (λ names. IsFirstWrong names (end_lines (raw_of c.args.raw.now)) fault) c.deref-2.ensures.value
-    (subst (λ lines. IsFirstWrong c.deref-2.result.now lines fault) (c.deref-3.ensures.value ∙ c.in_ok-lines.ensures)
+    (subst (λ names. IsFirstWrongLine names (end_lines (raw_of c.args.raw.now)) fault) c.deref-2.ensures.value
+    (subst (λ lines. IsFirstWrongLine c.deref-2.result.now lines fault) (c.deref-3.ensures.value ∙ c.in_ok-lines.ensures)
     (c.in_err-fars.ensures.fault fault (ap Err (error_is c.from_residual-in_err-fars.result c.in_err-fars.field-0.0
     (read.Fault fault) c.from_residual-in_err-fars.ensures.1 is)))))
 
