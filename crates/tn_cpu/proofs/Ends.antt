@@ -7,8 +7,7 @@ use Rattle.tn_mem.specs.Spaces.{Access, IsSpace}
 use Rattle.tn_mem.specs.Memories.{plain_access}
 use Rattle.tn_mem.proofs.SpaceLemmas.{extents-none}
 use Rattle.tn_isa.specs.declared.functions.Fun.{Fun}
-use Rattle.tn_prefix.specs.Coding.{is_prefix}
-use Rattle.tn_prefix.specs.Operand.{function_of, loaded}
+use Rattle.tn_isa.specs.OperandRegister.{is_prefix, function_of, loaded}
 use Rattle.tn_word.specs.Words.{not_process}
 use Rattle.tn_cpu.specs.declared.registers.Reg.{Reg}
 use Rattle.tn_cpu.specs.declared.registers.Reg.TheVariants.{Undefined, Word}

@@ -6,4 +6,3 @@ pub mod TurnLaws
 pub mod Ends
 pub mod Independence
 pub mod Placed
-pub mod Chains

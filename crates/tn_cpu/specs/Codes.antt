@@ -1,7 +1,7 @@
 -- Bytes of code in a space, and what reading their prefix bytes leaves.
 use Rattle.std.specs.Prelude.{◌≡◌, ℕ, zero, suc, ◌+◌, Bool, List, [], ◌∷◌, length, Ok, ⊤}
 use Rattle.tn_mem.specs.Spaces.{Access}
-use Rattle.tn_prefix.specs.Operand.{register_after}
+use Rattle.tn_isa.specs.OperandRegister.{register_after}
 use Rattle.tn_cpu.specs.declared.outcomes.Outcome.{Outcome}
 use Rattle.tn_cpu.specs.declared.outcomes.Outcome.TheVariants.{Prefix, Ran, OpensIn, OpensOut, Stopped}
 use Rattle.tn_cpu.specs.Turns.{Ended, halted_for}

@@ -1,8 +1,7 @@
 -- One instruction byte.
 use Rattle.std.specs.Prelude.{ℕ, ◌+◌, Bool, true, false}
 use Rattle.tn_mem.specs.Spaces.{Access}
-use Rattle.tn_prefix.specs.Coding.{is_prefix}
-use Rattle.tn_prefix.specs.Operand.{function_of, loaded, operand_after}
+use Rattle.tn_isa.specs.OperandRegister.{is_prefix, function_of, loaded, operand_after}
 use Rattle.tn_cpu.specs.declared.outcomes.Outcome.TheVariants.{Prefix}
 use Rattle.tn_cpu.specs.States.{State, wrap}
 use Rattle.tn_cpu.specs.Turns.{Ended, with_answer}

@@ -1,5 +1,5 @@
 ghost use Rattle.std.specs.Prelude.{◌≡◌};
-ghost use Rattle.tn_prefix.specs.Coding.{IsCoded};
+ghost use Rattle.tn_isa.specs.OperandRegister.{IsCoded};
 ghost use Rattle.tn_cpu.specs.declared.outcomes.Life.{Life};
 ghost use Rattle.tn_cpu.specs.States.{replaced};
 ghost use Rattle.tn_cpu.specs.Turns.{ran, with_answer};

@@ -1,6 +1,5 @@
 ghost use Rattle.std.specs.Prelude.{◌≡◌};
 ghost use Rattle.tn_cpu.specs.declared.outcomes.Life.{Life};
-ghost use Rattle.tn_prefix.specs.Operand.{loaded, operand_after};
 ghost use Rattle.tn_cpu.specs.Steps.{prefixed, execute_byte, step};
 ghost use Rattle.tn_cpu.specs.TurnEnds.{EndsTurn};
 ghost use Rattle.tn_cpu.specs.OutcomeLaws.{OpensLink, IsNotStray};
@@ -8,7 +7,7 @@ ghost use Rattle.tn_cpu.specs.OutcomeLaws.{OpensLink, IsNotStray};
 use crate::outcomes::Outcome;
 use crate::processors::Cpu;
 use crate::turns::Turn;
-use tn_isa::{Fun, fun_of};
+use tn_isa::{fun_of, is_prefix, loaded, operand_after};
 use tn_mem::Space;
 
 impl<M: Space> Cpu<M> {
@@ -38,40 +37,18 @@ impl<M: Space> Cpu<M> {
         ensures { execute_byte M.access byte busy slice clock self.old ≡ record { state = self.new; outcome = result } }
     {
         let following = self.iptr.wrapping_add(1);
-        match fun_of(byte) {
-            Fun::Pfix | Fun::Nfix => {
-                self.oreg = operand_after(self.oreg, byte);
-                self.iptr = following;
-                Outcome::Prefix
-            }
-            fun => {
-                let turn = Turn {
-                    following,
-                    busy,
-                    slice,
-                    clock,
-                };
-                self.apply(fun, loaded(self.oreg, byte), turn)
-            }
+        let fun = fun_of(byte);
+        if is_prefix(fun) {
+            self.oreg = operand_after(self.oreg, byte);
+            self.iptr = following;
+            return Outcome::Prefix;
         }
-    }
-}
-
-/// The operand register with its low four bits replaced by those of a byte.
-fn loaded(register: u32, byte: u8) -> u32
-    ensures { result ≡ loaded register byte }
-{
-    register / 16 * 16 + u32::from(byte % 16)
-}
-
-/// The operand register after a prefix byte; after any other, the operand that its function sees.
-fn operand_after(register: u32, byte: u8) -> u32
-    ensures { result ≡ operand_after register byte }
-{
-    let operand = loaded(register, byte);
-    match fun_of(byte) {
-        Fun::Pfix => operand << 4,
-        Fun::Nfix => !operand << 4,
-        _ => operand,
+        let turn = Turn {
+            following,
+            busy,
+            slice,
+            clock,
+        };
+        self.apply(fun, loaded(self.oreg, byte), turn)
     }
 }

@@ -1,5 +1,5 @@
 -- The operand register, which prefix bytes make and the byte behind them uses.
-use Rattle.std.specs.Prelude.{◌≡◌, ℕ, ◌+◌, ◌-◌, ◌*◌, ◌/◌, ◌%◌, ◌^◌, Bool, true, false}
+use Rattle.std.specs.Prelude.{◌≡◌, ℕ, ◌+◌, ◌-◌, ◌*◌, ◌/◌, ◌%◌, ◌^◌, Bool, true, false, List, fold}
 use Rattle.tn_isa.specs.Functions.{function_at}
 use Rattle.tn_isa.specs.declared.functions.Fun.{Fun}
 use Rattle.tn_isa.specs.declared.functions.Fun.TheVariants.{Pfix, Nfix}
@@ -37,3 +37,7 @@ shifted _ operand = operand
 -- the register after one byte
 abbrev pub operand_after : ℕ → ℕ → ℕ
 operand_after register byte = shifted (function_of byte) (loaded register byte)
+
+-- the register after bytes, one after the other
+abbrev pub register_after : ℕ → List ℕ → ℕ
+register_after register bytes = fold operand_after register bytes

@@ -1,5 +1,5 @@
 ghost use Rattle.std.specs.Prelude.{◌≡◌};
-ghost use Rattle.tn_prefix.specs.Coding.{IsCoded};
+ghost use Rattle.tn_isa.specs.OperandRegister.{IsCoded};
 ghost use Rattle.tn_cpu.specs.OutcomeLaws.{OpensLink};
 ghost use Rattle.tn_node.specs.declared.modes.Mode.TheVariants as mode;
 ghost use Rattle.tn_node.specs.declared.modes.Stage.TheVariants as stage;

@@ -7,9 +7,9 @@ use Rattle.std.proofs.lemmas.List.Sums.{fold-append}
 use Rattle.std.proofs.lemmas.List.Elements.{All-nil, All-push, All-same}
 use Rattle.tn_isa.specs.declared.functions.Fun.{Fun}
 use Rattle.tn_isa.specs.declared.functions.Fun.TheVariants.{Pfix, Nfix}
-use Rattle.tn_isa.specs.OperandRegister.{is_prefix, IsCoded, IsPrefix, loaded, shifted, operand_after}
+use Rattle.tn_isa.specs.OperandRegister.{is_prefix, IsCoded, IsPrefix, loaded, shifted, operand_after, register_after}
 use Rattle.tn_prefix.specs.Coding.{instruction, coding_up_to, unsigned_coding, coding}
-use Rattle.tn_prefix.specs.Operand.{register_after, LoadsAll, word_of}
+use Rattle.tn_prefix.specs.Operand.{LoadsAll, word_of}
 use Rattle.tn_prefix.proofs.Instructions.{instruction-below, instruction-low, function_of-instruction}
 use Rattle.tn_prefix.proofs.Cases.{by_lt}
 use Rattle.tn_prefix.proofs.Codings.{coding_up_to-small, coding_up_to-large, All-coding_up_to, coding_prefixes, coding_prefixes-small, coding_prefixes-large, coding_prefixes-negative, low_bits, coding-prefixes}

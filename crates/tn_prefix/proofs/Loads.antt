@@ -5,8 +5,8 @@ use Rattle.std.proofs.lemmas.List.{take-append-drop, take_more}
 use Rattle.std.proofs.lemmas.List.Sums.{fold-append}
 use Rattle.std.proofs.lemmas.List.Elements.{All-head, All-tail, All-more}
 use Rattle.tn_isa.specs.declared.functions.Fun.{Fun}
-use Rattle.tn_isa.specs.OperandRegister.{is_prefix, IsCoded, IsPrefix, function_of, loaded, shifted, operand_after}
-use Rattle.tn_prefix.specs.Operand.{register_after, behind_one, loads_from, loads, LoadsAll}
+use Rattle.tn_isa.specs.OperandRegister.{is_prefix, IsCoded, IsPrefix, function_of, loaded, shifted, operand_after, register_after}
+use Rattle.tn_prefix.specs.Operand.{behind_one, loads_from, loads, LoadsAll}
 use Rattle.tn_prefix.proofs.Cases.{same_found}
 
 -- a prefix byte is read and changes the register

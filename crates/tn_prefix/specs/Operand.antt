@@ -1,13 +1,9 @@
 -- What bytes load.
-use Rattle.std.specs.Prelude.{◌≡◌, ℕ, ◌+◌, ℤ, List, [], ◌∷◌, ◌++◌, All, Option, Some, None, if◌then◌else◌, fold}
+use Rattle.std.specs.Prelude.{◌≡◌, ℕ, ◌+◌, ℤ, List, [], ◌∷◌, ◌++◌, All, Option, Some, None, if◌then◌else◌}
 use Rattle.std.specs.Option.{option_map}
 use Rattle.std.specs.Int.{cast_unsigned, w32}
 use Rattle.tn_isa.specs.declared.functions.Fun.{Fun}
-use Rattle.tn_isa.specs.OperandRegister.{is_prefix, IsCoded, IsPrefix, function_of, loaded, operand_after}
-
--- the register after bytes, one after the other
-abbrev pub register_after : ℕ → List ℕ → ℕ
-register_after register bytes = fold operand_after register bytes
+use Rattle.tn_isa.specs.OperandRegister.{is_prefix, IsCoded, IsPrefix, function_of, loaded, operand_after, register_after}
 
 -- what was found behind one byte
 abbrev pub behind_one : Fun × ℕ × ℕ → Fun × ℕ × ℕ

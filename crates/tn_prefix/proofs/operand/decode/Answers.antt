@@ -1,6 +1,5 @@
 use Rattle.std.proofs.Common.{◌≡◌, ℕ, ◌+◌, take, All, get_or, sym, ap, ◌∙◌}
-use Rattle.tn_isa.specs.OperandRegister.{is_prefix, IsCoded, IsPrefix, operand_after}
-use Rattle.tn_prefix.specs.Operand.{register_after}
+use Rattle.tn_isa.specs.OperandRegister.{is_prefix, IsCoded, IsPrefix, operand_after, register_after}
 use Rattle.tn_prefix.proofs.Loads.{loads_from-prefixes, register_after_more, loads_at}
 use Rattle.std.proofs.lemmas.List.{take_all}
 use Rattle.std.proofs.lemmas.List.Elements.{All-same}

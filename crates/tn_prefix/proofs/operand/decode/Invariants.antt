@@ -1,6 +1,5 @@
 use Rattle.std.proofs.Common.{◌≡◌, take, All}
-use Rattle.tn_isa.specs.OperandRegister.{IsPrefix}
-use Rattle.tn_prefix.specs.Operand.{register_after}
+use Rattle.tn_isa.specs.OperandRegister.{IsPrefix, register_after}
 use Rattle.tn_prefix.proofs.operand.decode.Given as goal
 
 abbrev pub invariant-loop-index : goal.invariant-loop-index

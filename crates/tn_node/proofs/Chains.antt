@@ -7,8 +7,9 @@ use Rattle.std.proofs.lemmas.List.{take-append-drop}
 use Rattle.std.proofs.lemmas.List.Elements.{All-nil, All-cons, All-head, All-tail}
 use Rattle.tn_mem.specs.Spaces.{Access}
 use Rattle.tn_isa.specs.declared.functions.Fun.{Fun}
-use Rattle.tn_prefix.specs.Coding.{is_prefix, IsCoded, instruction, coding}
-use Rattle.tn_prefix.specs.Operand.{IsPrefix, function_of, loaded, operand_after, register_after, word_of}
+use Rattle.tn_isa.specs.OperandRegister.{is_prefix, IsCoded, IsPrefix, function_of, loaded, operand_after, register_after}
+use Rattle.tn_prefix.specs.Coding.{instruction, coding}
+use Rattle.tn_prefix.specs.Operand.{word_of}
 use Rattle.tn_prefix.proofs.Instructions.{function_of-instruction}
 use Rattle.tn_prefix.proofs.Codings.{coding_prefixes, low_bits, coding-prefixes}
 use Rattle.tn_prefix.proofs.CodingLoads.{IsPrefix-coding_prefixes, loaded-coding_prefixes}
