@@ -1,7 +1,9 @@
+pub mod Words
+pub mod WordBytes
+pub mod Refusals
+pub mod Stores
+pub mod TurnLaws
+pub mod Ends
+pub mod Independence
 pub mod Placed
 pub mod Chains
-pub mod PrimaryRuns
-pub mod Words
-pub mod Stops
-pub mod OutcomeLaws
-pub mod WordBytes

@@ -16,12 +16,15 @@ answer-unwrapped (Ok x) other e = refl
 answer-unwrapped (Err touch) other e = cc
 
 -- a word that is not refused is stored
-pub stored-storable : {M : Type 0} (access : Access M) (m : M) (a word : ℕ) → IsSpace access → storable access m a ≡ None → access.set_word m a word ≡ Ok (stored access m a word)
+pub stored-storable :
+    {M : Type 0} (access : Access M) (m : M) (a word : ℕ) → IsSpace access → storable access m a ≡ None
+    → access.set_word m a word ≡ Ok (stored access m a word)
 unfolding storable stored
 stored-storable access m a word laws e = answer-unwrapped (access.set_word m a word) m (laws.set_word_as_block m a word ∙ e)
 
 -- and loaded
-pub word_at-loadable : {M : Type 0} (access : Access M) (m : M) (a : ℕ) → loadable access m a ≡ None → access.word m a ≡ Ok (word_at access m a)
+pub word_at-loadable :
+    {M : Type 0} (access : Access M) (m : M) (a : ℕ) → loadable access m a ≡ None → access.word m a ≡ Ok (word_at access m a)
 unfolding loadable word_at
 word_at-loadable access m a e = answer-unwrapped (access.word m a) 0 e
 
@@ -30,7 +33,8 @@ tested : (test : Bool) (e : Option Touch) → (if test then e else Some Outside)
 tested true e h = (refl, h)
 tested false e h = cc
 
-pub loadable-storable : {M : Type 0} (access : Access M) (m : M) (a : ℕ) → IsSpace access → storable access m a ≡ None → loadable access m a ≡ None
+pub loadable-storable :
+    {M : Type 0} (access : Access M) (m : M) (a : ℕ) → IsSpace access → storable access m a ≡ None → loadable access m a ≡ None
 unfolding storable loadable
 loadable-storable access m a laws e =
     let both = tested (a % 4 == 0) (result_err (access.block m a 4)) e in
@@ -41,14 +45,18 @@ loadable-storable access m a laws e =
     unrefused (Err touch) h = cc
 
 -- a block that is not refused is copied over one that is not
-pub copied-blocks : {M : Type 0} (access : Access M) (m : M) (from to n : ℕ) → IsSpace access → block_refusal access m from n ≡ None → block_refusal access m to n ≡ None → access.copy m from to n ≡ Ok (copied access m from to n)
+pub copied-blocks :
+    {M : Type 0} (access : Access M) (m : M) (from to n : ℕ) → IsSpace access → block_refusal access m from n ≡ None
+    → block_refusal access m to n ≡ None → access.copy m from to n ≡ Ok (copied access m from to n)
 unfolding block_refusal copied
 copied-blocks access m from to n laws source target =
     let read = ap result_err (laws.source_of_block m from n (allowed (access.block m from n) source)) in
     answer-unwrapped (access.copy m from to n) m (laws.copy_as_blocks m from to n ∙ rw (read, target) refl)
 
 -- a store leaves the same accesses refused
-kept : {M : Type 0} (access : Access M) (m : M) (r : Result M Touch) → ((n : M) → r ≡ Ok n → SameExtents access m n) → SameExtents access m (result_unwrap_or r m)
+kept :
+    {M : Type 0} (access : Access M) (m : M) (r : Result M Touch) → ((n : M) → r ≡ Ok n → SameExtents access m n)
+    → SameExtents access m (result_unwrap_or r m)
 kept access m (Ok n) keeps = keeps n refl
 kept access m (Err touch) keeps = extents-none access m
 
@@ -56,19 +64,24 @@ pub extents-stored : {M : Type 0} (access : Access M) (m : M) (a word : ℕ) →
 unfolding stored
 extents-stored access m a word laws = kept access m (access.set_word m a word) (λ n e. laws.set_word_keeps m n a word e)
 
-pub extents-copied : {M : Type 0} (access : Access M) (m : M) (from to n : ℕ) → IsSpace access → SameExtents access m (copied access m from to n)
+pub extents-copied :
+    {M : Type 0} (access : Access M) (m : M) (from to n : ℕ) → IsSpace access → SameExtents access m (copied access m from to n)
 unfolding copied
 extents-copied access m from to n laws = kept access m (access.copy m from to n) (λ k e. laws.copy_keeps m k from to n e)
 
 -- so the tests of a row hold after each of its stores
-pub storable-after : {M : Type 0} (access : Access M) (old new : M) (a : ℕ) → SameExtents access old new → storable access new a ≡ storable access old a
+pub storable-after :
+    {M : Type 0} (access : Access M) (old new : M) (a : ℕ) → SameExtents access old new → storable access new a ≡ storable access old a
 unfolding storable
 storable-after access old new a same = ap (λ (e : Option Touch). if a % 4 == 0 then e else Some Outside) (same.block a 4)
 
-pub loadable-after : {M : Type 0} (access : Access M) (old new : M) (a : ℕ) → SameExtents access old new → loadable access new a ≡ loadable access old a
+pub loadable-after :
+    {M : Type 0} (access : Access M) (old new : M) (a : ℕ) → SameExtents access old new → loadable access new a ≡ loadable access old a
 unfolding loadable
 loadable-after access old new a same = same.word a
 
-pub block_refusal-after : {M : Type 0} (access : Access M) (old new : M) (a n : ℕ) → SameExtents access old new → block_refusal access new a n ≡ block_refusal access old a n
+pub block_refusal-after :
+    {M : Type 0} (access : Access M) (old new : M) (a n : ℕ) → SameExtents access old new
+    → block_refusal access new a n ≡ block_refusal access old a n
 unfolding block_refusal
 block_refusal-after access old new a n same = same.block a n

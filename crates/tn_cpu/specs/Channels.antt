@@ -1,5 +1,6 @@
 -- Input and output, on the channels of links and between two processes.
-use Rattle.std.specs.Prelude.{ℕ, ◌+◌, ◌-◌, ◌/◌, ◌%◌, ◌^◌, ◌==◌, Bool, true, false, not, ◌&&◌, ◌||◌, nat_le, nat_lt, if◌then◌else◌, Option, None, Some}
+use Rattle.std.specs.Prelude.{ℕ, ◌+◌, ◌-◌, ◌/◌, ◌%◌, ◌^◌, ◌==◌, Bool, true, false, not, ◌&&◌, ◌||◌, nat_le, nat_lt, if◌then◌else◌}
+use Rattle.std.specs.Prelude.{Option, None, Some}
 use Rattle.tn_mem.specs.declared.touches.Touch.{Touch}
 use Rattle.tn_mem.specs.declared.touches.Touch.TheVariants.{Outside, Code}
 use Rattle.tn_mem.specs.Spaces.{Access, first_refusal}
@@ -15,7 +16,8 @@ use Rattle.tn_cpu.specs.declared.channels.Channel.{Channel}
 use Rattle.tn_cpu.specs.declared.channels.Channel.TheVariants.{Link, Internal, NoChannel}
 use Rattle.tn_cpu.specs.States.{State, wrap, below, cleared}
 use Rattle.tn_cpu.specs.Turns.{Ended, stopped, ran, with_word, with_three, unless_refused, unless_outside}
-use Rattle.tn_cpu.specs.Queues.{storable, loadable, block_refusal, stored, copied, word_at, or_then, enqueue_refusal, enqueued, next_refusal, next, saved, gave_way}
+use Rattle.tn_cpu.specs.Queues.{storable, loadable, block_refusal, source_refusal, stored, copied, word_at, or_then}
+use Rattle.tn_cpu.specs.Queues.{enqueue_refusal, enqueued, next_refusal, next, saved, gave_way}
 
 -- the channel word of link 0; those of links 1 to 3 follow it
 abbrev pub first_link : Way → ℕ
@@ -50,21 +52,42 @@ abbrev pub opens : Way → Transfer → Outcome
 opens Input transfer = OpensIn transfer
 opens Output transfer = OpensOut transfer
 
+-- why the block of a transfer may not be used, if it may not: `in` stores it, and `out` reads it
+abbrev pub bytes_refusal : {M : Type 0} → Access M → Way → M → ℕ → ℕ → Option Touch
+bytes_refusal access Input m pointer count = block_refusal access m pointer count
+bytes_refusal access Output m pointer count = source_refusal access m pointer count
+
+-- the direction of the other process on a channel
+abbrev pub other_way : Way → Way
+other_way Input = Output
+other_way Output = Input
+
 -- on a link: the engine opens, and the next process runs
 abbrev pub linked : {M : Type 0} → Access M → Way → Turn → ℕ → ℕ → ℕ → State M → Ended M
 linked access way t count pointer link s =
     unless_outside (count == 0 || is_open way link t.busy) s
-    (unless_refused (first_refusal (block_refusal access s.memory pointer count) (first_refusal (storable access s.memory (below s.wptr 4)) (next_refusal access s.memory s.front s.back))) s
-    (record { state = next access (saved access t.following s); outcome = opens way (record { link = link; pointer = pointer; count = count; process = s.wptr }) }))
+    (unless_refused
+    (first_refusal (bytes_refusal access way s.memory pointer count)
+    (first_refusal (storable access s.memory (below s.wptr 4)) (next_refusal access s.memory s.front s.back))) s
+    (record {
+      state = next access (saved access t.following s);
+      outcome = opens way
+          (record { link = link; pointer = pointer; count = count; process = s.wptr });
+    }))
 
 -- on an internal channel where no process waits: this one does, and the next process runs
 abbrev pub waiting : {M : Type 0} → Access M → ℕ → ℕ → ℕ → State M → State M
 waiting access iptr channel pointer s =
-    record s { memory = stored access (stored access (stored access s.memory (below s.wptr 4) iptr) (below s.wptr 12) pointer) channel (wrap (s.wptr + 1)) }
+    record s {
+      memory = stored access (stored access (stored access s.memory (below s.wptr 4) iptr) (below s.wptr 12) pointer) channel
+          (wrap (s.wptr + 1));
+    }
 
 abbrev pub waits : {M : Type 0} → Access M → Turn → ℕ → ℕ → State M → Ended M
 waits access t channel pointer s =
-    unless_refused (first_refusal (storable access s.memory (below s.wptr 4)) (first_refusal (storable access s.memory (below s.wptr 12)) (next_refusal access s.memory s.front s.back))) s
+    unless_refused
+    (first_refusal (storable access s.memory (below s.wptr 4))
+    (first_refusal (storable access s.memory (below s.wptr 12)) (next_refusal access s.memory s.front s.back))) s
     (gave_way access (waiting access t.following channel pointer s))
 
 -- where a process waits: the bytes are copied towards the inputting one, and both go on
@@ -72,14 +95,23 @@ abbrev pub exchanged : {M : Type 0} → Access M → Way → ℕ → ℕ → ℕ
 exchanged access Input count pointer partner m = copied access m partner pointer count
 exchanged access Output count pointer partner m = copied access m pointer partner count
 
-abbrev pub partner_refusal : {M : Type 0} → Access M → M → ℕ → ℕ → Option Touch
-partner_refusal access m process count =
-    or_then (loadable access m (below process 12)) (block_refusal access m (word_at access m (below process 12)) count)
+abbrev pub partner_refusal : {M : Type 0} → Access M → Way → M → ℕ → ℕ → Option Touch
+partner_refusal access way m process count =
+    or_then (loadable access m (below process 12))
+    (bytes_refusal access (other_way way) m (word_at access m (below process 12)) count)
 
 abbrev pub met : {M : Type 0} → Access M → Way → Turn → ℕ → ℕ → ℕ → ℕ → State M → Ended M
 met access way t count channel pointer process s =
-    unless_refused (first_refusal (partner_refusal access s.memory process count) (first_refusal (block_refusal access s.memory pointer count) (enqueue_refusal access s.memory s.front s.back))) s
-    (ran t.following (cleared (enqueued access process (record s { memory = stored access (exchanged access way count pointer (word_at access s.memory (below process 12)) s.memory) channel not_process }))))
+    unless_refused
+    (first_refusal (partner_refusal access way s.memory process count)
+    (first_refusal (bytes_refusal access way s.memory pointer count) (enqueue_refusal access s.memory s.front s.back))) s
+    (ran t.following
+    (cleared
+    (enqueued access process
+    (record s {
+      memory = stored access
+          (exchanged access way count pointer (word_at access s.memory (below process 12)) s.memory) channel not_process;
+    }))))
 
 -- on an internal channel, by the word in it: NotProcess.p, or the waiting process with its lowest bit set
 abbrev pub internal : {M : Type 0} → Access M → Way → Turn → ℕ → ℕ → ℕ → ℕ → State M → Ended M

@@ -16,7 +16,10 @@ StandsAt access m a (byte ∷ bytes) = (access.byte m a ≡ Ok byte) × StandsAt
 -- so many bytes are read one after the other, each a prefix, whatever the steps are given
 pub data Reads {M : Type 0} (access : Access M) : ℕ → State M → State M → Type 0 where
   none : {s : State M} → Reads access zero s s
-  more : {n : ℕ} {s t u : State M} → ((busy : ℕ) (slice : Bool) (clock : ℕ) → step access busy slice clock s ≡ record { state = t; outcome = Prefix }) → Reads access n t u → Reads access (suc n) s u
+  more :
+      {n : ℕ} {s t u : State M}
+      → ((busy : ℕ) (slice : Bool) (clock : ℕ) → step access busy slice clock s ≡ record { state = t; outcome = Prefix })
+      → Reads access n t u → Reads access (suc n) s u
 
 -- prefix bytes at the instruction pointer have been read
 abbrev pub having_read : {M : Type 0} → List ℕ → State M → State M

@@ -6,5 +6,5 @@ pub mod Rows
 pub mod Effects
 pub mod Steps
 pub mod Codes
-pub mod Primaries
+pub mod TurnEnds
 pub mod OutcomeLaws

@@ -25,9 +25,13 @@ storable access m a = if a % 4 == 0 then result_err (access.block m a 4) else So
 unfoldable pub loadable : {M : Type 0} → Access M → M → ℕ → Option Touch
 loadable access m a = result_err (access.word m a)
 
--- why a block may not be read and stored, if it may not
+-- why a block may not be stored, if it may not
 unfoldable pub block_refusal : {M : Type 0} → Access M → M → ℕ → ℕ → Option Touch
 block_refusal access m a n = result_err (access.block m a n)
+
+-- why a block may not be read, if it may not
+unfoldable pub source_refusal : {M : Type 0} → Access M → M → ℕ → ℕ → Option Touch
+source_refusal access m a n = result_err (access.source m a n)
 
 -- the memory with a word stored where that is allowed
 unfoldable pub stored : {M : Type 0} → Access M → M → ℕ → ℕ → M
@@ -73,7 +77,8 @@ enqueued access process s = enqueued_behind access s.front process s
 unfoldable pub next_refusal : {M : Type 0} → Access M → M → Reg → ℕ → Option Touch
 next_refusal access m Undefined back = None
 next_refusal access m (Word front) back =
-    if front == not_process then None else first_refusal (loadable access m (below front 4)) (if front == back then None else loadable access m (below front 8))
+    if front == not_process then None else first_refusal (loadable access m (below front 4))
+    (if front == back then None else loadable access m (below front 8))
 
 -- no process runs
 abbrev pub idle : {M : Type 0} → State M → State M
@@ -82,7 +87,14 @@ idle s = cleared (record s { oreg = 0; iptr = 0; wptr = 0; life = Idle })
 -- the front of the queue runs
 abbrev pub resumed : {M : Type 0} → Access M → ℕ → State M → State M
 resumed access front s =
-    cleared (record s { oreg = 0; iptr = word_at access s.memory (below front 4); wptr = front; front = Word (if front == s.back then not_process else word_at access s.memory (below front 8)) })
+    cleared
+    (record s {
+      oreg = 0;
+      iptr = word_at access s.memory (below front 4);
+      wptr = front;
+      front = Word
+          (if front == s.back then not_process else word_at access s.memory (below front 8));
+    })
 
 -- the next process runs, if any waits
 abbrev pub next_from : {M : Type 0} → Access M → Reg → State M → State M
@@ -102,7 +114,8 @@ saved access iptr s = record s { memory = stored access s.memory (below s.wptr 4
 unfoldable pub slice_refusal : {M : Type 0} → Access M → Bool → State M → Option Touch
 slice_refusal access slice s =
     if is_waiting s.front && slice
-    then first_refusal (storable access s.memory (below s.wptr 4)) (first_refusal (enqueue_refusal access s.memory s.front s.back) (next_refusal access s.memory s.front s.wptr))
+    then first_refusal (storable access s.memory (below s.wptr 4))
+    (first_refusal (enqueue_refusal access s.memory s.front s.back) (next_refusal access s.memory s.front s.wptr))
     else None
 
 -- the process goes behind the queue, and the next one runs

@@ -7,24 +7,35 @@ use Rattle.tn_cpu.specs.declared.registers.Reg.TheVariants.{Undefined, Word}
 use Rattle.tn_cpu.specs.declared.turns.Turn.{Turn}
 use Rattle.tn_cpu.specs.States.{State, wrap, below, words_above, cleared, word_or_0}
 use Rattle.tn_cpu.specs.Turns.{Ended, ran, with_word, with_two, with_three, with_answer, unless_refused, unless_outside}
-use Rattle.tn_cpu.specs.Queues.{storable, loadable, stored, word_at, or_then, enqueue_refusal, enqueued, next_refusal, saved, slice_refusal, ran_or_sliced, gave_way}
+use Rattle.tn_cpu.specs.Queues.{storable, loadable, stored, word_at, or_then, enqueue_refusal, enqueued, next_refusal, saved}
+use Rattle.tn_cpu.specs.Queues.{slice_refusal, ran_or_sliced, gave_way}
 
 -- ---- call
 
 -- the refusal of the four words of the new workspace
 abbrev pub frame_refusal : {M : Type 0} → Access M → M → ℕ → Option Touch
 frame_refusal access m w =
-    first_refusal (first_refusal (storable access m w) (storable access m (words_above w 1))) (first_refusal (storable access m (words_above w 2)) (storable access m (words_above w 3)))
+    first_refusal (first_refusal (storable access m w) (storable access m (words_above w 1)))
+    (first_refusal (storable access m (words_above w 2)) (storable access m (words_above w 3)))
 
 -- the address of the next instruction and the three registers, one after the other; an undefined one is stored as 0
 abbrev pub frame_stored : {M : Type 0} → Access M → ℕ → ℕ → Reg → Reg → Reg → M → M
 frame_stored access w following a b c m =
-    stored access (stored access (stored access (stored access m w following) (words_above w 1) (word_or_0 a)) (words_above w 2) (word_or_0 b)) (words_above w 3) (word_or_0 c)
+    stored access
+    (stored access (stored access (stored access m w following) (words_above w 1) (word_or_0 a)) (words_above w 2) (word_or_0 b))
+    (words_above w 3) (word_or_0 c)
 
 abbrev pub call_row : {M : Type 0} → Access M → ℕ → Turn → State M → Ended M
 call_row access operand t s =
     unless_refused (frame_refusal access s.memory (below s.wptr 16)) s
-    (ran (wrap (t.following + operand)) (record s { memory = frame_stored access (below s.wptr 16) t.following s.a s.b s.c s.memory; wptr = below s.wptr 16; a = Word t.following; b = Undefined; c = Undefined }))
+    (ran (wrap (t.following + operand))
+    (record s {
+      memory = frame_stored access (below s.wptr 16) t.following s.a s.b s.c s.memory;
+      wptr = below s.wptr 16;
+      a = Word t.following;
+      b = Undefined;
+      c = Undefined;
+    }))
 
 -- ---- startp, endp, runp, stopp
 
@@ -33,7 +44,9 @@ abbrev pub startp_row : {M : Type 0} → Access M → Turn → State M → Ended
 startp_row access t s =
     with_two s.a s.b s (λ process offset. with_word s.front s (λ front.
     unless_refused (first_refusal (storable access s.memory (below process 4)) (enqueue_refusal access s.memory s.front s.back)) s
-    (ran t.following (cleared (enqueued access process (record s { memory = stored access s.memory (below process 4) (wrap (t.following + offset)) }))))))
+    (ran t.following
+    (cleared
+    (enqueued access process (record s { memory = stored access s.memory (below process 4) (wrap (t.following + offset)) }))))))
 
 -- endp of the last of them
 abbrev pub endp_last : {M : Type 0} → Access M → ℕ → ℕ → State M → Ended M
@@ -51,7 +64,8 @@ endp_other access w count s =
 abbrev pub endp_row : {M : Type 0} → Access M → State M → Ended M
 endp_row access s =
     with_word s.a s (λ w. unless_refused (storable access s.memory (words_above w 1)) s
-    (if word_at access s.memory (words_above w 1) == 1 then endp_last access w (word_at access s.memory (words_above w 1)) s else endp_other access w (word_at access s.memory (words_above w 1)) s))
+    (if word_at access s.memory (words_above w 1) == 1 then endp_last access w (word_at access s.memory (words_above w 1)) s
+    else endp_other access w (word_at access s.memory (words_above w 1)) s))
 
 -- a process, told with its lowest bit set, goes into the queue
 abbrev pub runp_row : {M : Type 0} → Access M → Turn → State M → Ended M
@@ -63,7 +77,8 @@ runp_row access t s =
 -- the current process waits outside the queue
 abbrev pub stopp_row : {M : Type 0} → Access M → Turn → State M → Ended M
 stopp_row access t s =
-    with_word s.front s (λ front. unless_refused (first_refusal (storable access s.memory (below s.wptr 4)) (next_refusal access s.memory s.front s.back)) s
+    with_word s.front s
+    (λ front. unless_refused (first_refusal (storable access s.memory (below s.wptr 4)) (next_refusal access s.memory s.front s.back)) s
     (gave_way access (saved access t.following s)))
 
 -- ---- lend
@@ -91,10 +106,12 @@ loop_end count back following = if is_loop_taken count then below following back
 abbrev pub lend_row : {M : Type 0} → Access M → Turn → State M → Ended M
 lend_row access t s =
     with_two s.a s.b s (λ back w. unless_refused (first_refusal (loop_refusal access w s.memory) (slice_refusal access t.slice s)) s
-    (ran_or_sliced access t.slice (loop_end (word_at access s.memory (words_above w 1)) back t.following) (cleared (record s { memory = loop_stored access w (word_at access s.memory (words_above w 1)) s.memory }))))
+    (ran_or_sliced access t.slice (loop_end (word_at access s.memory (words_above w 1)) back t.following)
+    (cleared (record s { memory = loop_stored access w (word_at access s.memory (words_above w 1)) s.memory }))))
 
 -- ---- move
 
 abbrev pub move_row : {M : Type 0} → Access M → Turn → State M → Ended M
 move_row access t s =
-    with_three s.a s.b s.c s (λ count to from. with_answer (access.copy s.memory from to count) s (λ m. ran t.following (cleared (record s { memory = m }))))
+    with_three s.a s.b s.c s
+    (λ count to from. with_answer (access.copy s.memory from to count) s (λ m. ran t.following (cleared (record s { memory = m }))))

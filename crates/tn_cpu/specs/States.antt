@@ -41,7 +41,20 @@ aligned_up n = (n + 3) / 4 * 4
 -- after power-up, with these values of Error and HaltOnError
 abbrev pub powered_up : {M : Type 0} → M → Bool → Bool → State M
 powered_up memory error halt =
-    record { memory = memory; a = Undefined; b = Undefined; c = Undefined; oreg = 0; iptr = 0; wptr = 0; front = Undefined; back = 0; error = error; halt = halt; life = Idle }
+    record {
+      memory = memory;
+      a = Undefined;
+      b = Undefined;
+      c = Undefined;
+      oreg = 0;
+      iptr = 0;
+      wptr = 0;
+      front = Undefined;
+      back = 0;
+      error = error;
+      halt = halt;
+      life = Idle;
+    }
 
 -- Areg, Breg and Creg undefined
 abbrev pub cleared : {M : Type 0} → State M → State M
@@ -54,7 +67,20 @@ booted bytes s = cleared (record s { oreg = 0; iptr = mem_start; wptr = aligned_
 -- the same processor over another memory
 abbrev pub over_memory : {M N : Type 0} → N → State M → State N
 over_memory memory s =
-    record { memory = memory; a = s.a; b = s.b; c = s.c; oreg = s.oreg; iptr = s.iptr; wptr = s.wptr; front = s.front; back = s.back; error = s.error; halt = s.halt; life = s.life }
+    record {
+      memory = memory;
+      a = s.a;
+      b = s.b;
+      c = s.c;
+      oreg = s.oreg;
+      iptr = s.iptr;
+      wptr = s.wptr;
+      front = s.front;
+      back = s.back;
+      error = s.error;
+      halt = s.halt;
+      life = s.life;
+    }
 
 -- ---- the stack of three registers
 

@@ -15,7 +15,8 @@ prefixed byte s = record { state = record s { oreg = operand_after s.oreg byte; 
 abbrev pub executed : {M : Type 0} → Access M → Bool → ℕ → ℕ → Bool → ℕ → State M → Ended M
 executed access true byte busy slice clock s = prefixed byte s
 executed access false byte busy slice clock s =
-    effect access (function_of byte) (loaded s.oreg byte) (record { following = wrap (s.iptr + 1); busy = busy; slice = slice; clock = clock }) s
+    effect access (function_of byte) (loaded s.oreg byte)
+    (record { following = wrap (s.iptr + 1); busy = busy; slice = slice; clock = clock }) s
 
 -- the byte at the instruction pointer is this one
 unfoldable pub execute_byte : {M : Type 0} → Access M → ℕ → ℕ → Bool → ℕ → State M → Ended M

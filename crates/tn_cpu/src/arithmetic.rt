@@ -2,7 +2,7 @@ ghost use Rattle.std.specs.Prelude.{◌≡◌};
 ghost use Rattle.tn_isa.specs.declared.operations.Op.{Op};
 ghost use Rattle.tn_cpu.specs.States.{filled};
 ghost use Rattle.tn_cpu.specs.Turns.{ran};
-ghost use Rattle.tn_cpu.specs.Effects.{operate, plain};
+ghost use Rattle.tn_cpu.specs.Effects.{operate, unchecked};
 
 use crate::outcomes::{Outcome, Why};
 use crate::processors::Cpu;
@@ -19,7 +19,7 @@ impl<M: Space> Cpu<M> {
         ensures { operate M.access Op.Bsub turn self.old ≡ record { state = self.new; outcome = result } }
     {
         match (self.a, self.b) {
-            (Reg::Word(a), Reg::Word(b)) => self.join(plain(a.wrapping_add(b)), turn.following),
+            (Reg::Word(a), Reg::Word(b)) => self.join(unchecked(a.wrapping_add(b)), turn.following),
             _ => self.stop(Why::Undefined),
         }
     }
@@ -29,7 +29,7 @@ impl<M: Space> Cpu<M> {
         ensures { operate M.access Op.Diff turn self.old ≡ record { state = self.new; outcome = result } }
     {
         match (self.a, self.b) {
-            (Reg::Word(a), Reg::Word(b)) => self.join(plain(b.wrapping_sub(a)), turn.following),
+            (Reg::Word(a), Reg::Word(b)) => self.join(unchecked(b.wrapping_sub(a)), turn.following),
             _ => self.stop(Why::Undefined),
         }
     }
@@ -49,7 +49,7 @@ impl<M: Space> Cpu<M> {
         ensures { operate M.access Op.Prod turn self.old ≡ record { state = self.new; outcome = result } }
     {
         match (self.a, self.b) {
-            (Reg::Word(a), Reg::Word(b)) => self.join(plain(b.wrapping_mul(a)), turn.following),
+            (Reg::Word(a), Reg::Word(b)) => self.join(unchecked(b.wrapping_mul(a)), turn.following),
             _ => self.stop(Why::Undefined),
         }
     }
@@ -60,7 +60,7 @@ impl<M: Space> Cpu<M> {
     {
         match (self.a, self.b) {
             (Reg::Word(a), Reg::Word(b)) => self.join(
-                plain(u32::from(b.cast_signed() > a.cast_signed())),
+                unchecked(u32::from(b.cast_signed() > a.cast_signed())),
                 turn.following,
             ),
             _ => self.stop(Why::Undefined),
@@ -72,7 +72,7 @@ impl<M: Space> Cpu<M> {
         ensures { operate M.access Op.Wsub turn self.old ≡ record { state = self.new; outcome = result } }
     {
         match (self.a, self.b) {
-            (Reg::Word(a), Reg::Word(b)) => self.join(plain(words_above(a, b)), turn.following),
+            (Reg::Word(a), Reg::Word(b)) => self.join(unchecked(words_above(a, b)), turn.following),
             _ => self.stop(Why::Undefined),
         }
     }
@@ -112,7 +112,7 @@ impl<M: Space> Cpu<M> {
         ensures { operate M.access Op.Xor turn self.old ≡ record { state = self.new; outcome = result } }
     {
         match (self.a, self.b) {
-            (Reg::Word(a), Reg::Word(b)) => self.join(plain(b ^ a), turn.following),
+            (Reg::Word(a), Reg::Word(b)) => self.join(unchecked(b ^ a), turn.following),
             _ => self.stop(Why::Undefined),
         }
     }
@@ -142,7 +142,7 @@ impl<M: Space> Cpu<M> {
         ensures { operate M.access Op.And turn self.old ≡ record { state = self.new; outcome = result } }
     {
         match (self.a, self.b) {
-            (Reg::Word(a), Reg::Word(b)) => self.join(plain(b & a), turn.following),
+            (Reg::Word(a), Reg::Word(b)) => self.join(unchecked(b & a), turn.following),
             _ => self.stop(Why::Undefined),
         }
     }
@@ -152,7 +152,7 @@ impl<M: Space> Cpu<M> {
         ensures { operate M.access Op.Or turn self.old ≡ record { state = self.new; outcome = result } }
     {
         match (self.a, self.b) {
-            (Reg::Word(a), Reg::Word(b)) => self.join(plain(b | a), turn.following),
+            (Reg::Word(a), Reg::Word(b)) => self.join(unchecked(b | a), turn.following),
             _ => self.stop(Why::Undefined),
         }
     }
@@ -162,7 +162,7 @@ impl<M: Space> Cpu<M> {
         ensures { operate M.access Op.Sum turn self.old ≡ record { state = self.new; outcome = result } }
     {
         match (self.a, self.b) {
-            (Reg::Word(a), Reg::Word(b)) => self.join(plain(b.wrapping_add(a)), turn.following),
+            (Reg::Word(a), Reg::Word(b)) => self.join(unchecked(b.wrapping_add(a)), turn.following),
             _ => self.stop(Why::Undefined),
         }
     }
@@ -228,8 +228,8 @@ impl<M: Space> Cpu<M> {
 }
 
 /// The word of a result that sets no Error.
-fn plain(word: u32) -> Answer
-    ensures { result ≡ plain word }
+fn unchecked(word: u32) -> Answer
+    ensures { result ≡ unchecked word }
 {
     Answer {
         value: Some(word),

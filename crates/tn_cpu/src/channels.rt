@@ -1,5 +1,5 @@
 ghost use Rattle.std.specs.Prelude.{◌≡◌, ◌<◌};
-ghost use Rattle.tn_cpu.specs.Channels.{first_link, aligned_channel, channel_at, is_set, is_open, opens, linked, waiting, waits, exchanged, partner_refusal, met, internal, is_outside, on_channel, transfer_row};
+ghost use Rattle.tn_cpu.specs.Channels.{first_link, aligned_channel, channel_at, is_set, is_open, opens, linked, waiting, waits, exchanged, bytes_refusal, other_way, partner_refusal, met, internal, is_outside, on_channel, transfer_row};
 
 use crate::outcomes::{Outcome, Transfer, Why};
 use crate::processors::Cpu;
@@ -82,7 +82,7 @@ impl<M: Space> Cpu<M> {
         }
         let saved = self.storable(below(self.wptr, 4));
         let words = first_refusal(saved, self.next_refusal(self.back));
-        if let Some(touch) = first_refusal(self.block_refusal(pointer, count), words) {
+        if let Some(touch) = first_refusal(self.bytes_refusal(way, pointer, count), words) {
             return self.refuse(touch);
         }
         let transfer = Transfer {
@@ -158,8 +158,11 @@ impl<M: Space> Cpu<M> {
     ) -> Outcome
         ensures { met M.access way turn count channel pointer process self.old ≡ record { state = self.new; outcome = result } }
     {
-        let own = first_refusal(self.block_refusal(pointer, count), self.enqueue_refusal());
-        if let Some(touch) = first_refusal(self.partner_refusal(process, count), own) {
+        let own = first_refusal(
+            self.bytes_refusal(way, pointer, count),
+            self.enqueue_refusal(),
+        );
+        if let Some(touch) = first_refusal(self.partner_refusal(way, process, count), own) {
             return self.refuse(touch);
         }
         let partner = self.word_at(below(process, 12));
@@ -171,12 +174,22 @@ impl<M: Space> Cpu<M> {
     }
 
     /// Why the block of a waiting process may not be used, if it may not.
-    fn partner_refusal(&self, process: u32, count: u32) -> Option<Touch>
-        ensures { result ≡ partner_refusal M.access self.now.memory process count }
+    fn partner_refusal(&self, way: Way, process: u32, count: u32) -> Option<Touch>
+        ensures { result ≡ partner_refusal M.access way self.now.memory process count }
     {
         match self.loadable(below(process, 12)) {
             Some(touch) => Some(touch),
-            None => self.block_refusal(self.word_at(below(process, 12)), count),
+            None => self.bytes_refusal(other_way(way), self.word_at(below(process, 12)), count),
+        }
+    }
+
+    /// Why the block of a transfer may not be used, if it may not: `in` stores it, and `out` reads it.
+    fn bytes_refusal(&self, way: Way, pointer: u32, count: u32) -> Option<Touch>
+        ensures { result ≡ bytes_refusal M.access way self.now.memory pointer count }
+    {
+        match way {
+            Way::Input => self.block_refusal(pointer, count),
+            Way::Output => self.source_refusal(pointer, count),
         }
     }
 
@@ -188,6 +201,16 @@ impl<M: Space> Cpu<M> {
             Way::Input => self.copy(partner, pointer, count),
             Way::Output => self.copy(pointer, partner, count),
         }
+    }
+}
+
+/// The direction of the other process on a channel.
+fn other_way(way: Way) -> Way
+    ensures { result ≡ other_way way }
+{
+    match way {
+        Way::Input => Way::Output,
+        Way::Output => Way::Input,
     }
 }
 

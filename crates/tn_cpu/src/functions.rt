@@ -4,6 +4,7 @@ ghost use Rattle.tn_cpu.specs.declared.outcomes.Life.{Life};
 ghost use Rattle.tn_cpu.specs.States.{replaced};
 ghost use Rattle.tn_cpu.specs.Turns.{ran, with_answer};
 ghost use Rattle.tn_cpu.specs.Effects.{effect, operate_found};
+ghost use Rattle.tn_cpu.specs.TurnEnds.{EndsTurn};
 ghost use Rattle.tn_cpu.specs.OutcomeLaws.{OpensLink, IsNotStray};
 
 use crate::outcomes::{Outcome, Why};
@@ -33,6 +34,7 @@ impl<M: Space> Cpu<M> {
         requires running { self.old.life ≡ Life.Running }
         requires coded { IsCoded fun }
         ensures effect { effect M.access fun operand (record { following = following; busy = busy; slice = slice; clock = clock }) self.old ≡ record { state = self.new; outcome = result } }
+        ensures turn { EndsTurn M.access busy self.old (record { state = self.new; outcome = result }) }
         ensures transfer { OpensLink result }
         ensures stray { IsNotStray result }
     {

@@ -12,13 +12,9 @@ mod outcomes;
 mod processors;
 mod queues;
 mod registers;
-#[cfg(test)]
-mod row_tests;
 mod rows;
 mod stacks;
 mod steps;
-#[cfg(test)]
-mod tests;
 mod turns;
 
 pub use outcomes::{Life, Outcome, Transfer, Why};

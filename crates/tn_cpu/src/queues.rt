@@ -1,7 +1,7 @@
 ghost use Rattle.std.specs.Prelude.{◌≡◌};
 ghost use Rattle.tn_mem.specs.Spaces.{first_refusal};
 ghost use Rattle.tn_cpu.specs.States.{below, words_above};
-ghost use Rattle.tn_cpu.specs.Queues.{storable, loadable, block_refusal, stored, copied, word_at, is_waiting, enqueue_refusal, enqueued, next_refusal, next, saved, slice_refusal, ran_or_sliced, gave_way, resumed, woken, woken_behind, woken_idle};
+ghost use Rattle.tn_cpu.specs.Queues.{storable, loadable, block_refusal, source_refusal, stored, copied, word_at, is_waiting, enqueue_refusal, enqueued, next_refusal, next, saved, slice_refusal, ran_or_sliced, gave_way, resumed, woken, woken_behind, woken_idle};
 
 use crate::outcomes::{Life, Outcome, Why};
 use crate::processors::Cpu;
@@ -31,10 +31,17 @@ impl<M: Space> Cpu<M> {
         self.memory.word(a).err()
     }
 
-    /// Why a block may not be read and stored, if it may not.
+    /// Why a block may not be stored, if it may not.
     #[tactic(auto, unfolding(crate::specs::Queues::block_refusal))]
     pub(crate) fn block_refusal(&self, a: u32, n: u32) -> Option<Touch>
         ensures { result ≡ block_refusal M.access self.now.memory a n }
+    {
+        self.memory.block(a, n).err()
+    }
+
+    /// Why a block may not be read, if it may not. In each space so far it may where it may be stored.
+    pub(crate) fn source_refusal(&self, a: u32, n: u32) -> Option<Touch>
+        ensures { result ≡ source_refusal M.access self.now.memory a n }
     {
         self.memory.block(a, n).err()
     }

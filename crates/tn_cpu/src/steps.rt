@@ -2,6 +2,7 @@ ghost use Rattle.std.specs.Prelude.{◌≡◌};
 ghost use Rattle.tn_cpu.specs.declared.outcomes.Life.{Life};
 ghost use Rattle.tn_prefix.specs.Operand.{loaded, operand_after};
 ghost use Rattle.tn_cpu.specs.Steps.{prefixed, execute_byte, step};
+ghost use Rattle.tn_cpu.specs.TurnEnds.{EndsTurn};
 ghost use Rattle.tn_cpu.specs.OutcomeLaws.{OpensLink, IsNotStray};
 
 use crate::outcomes::Outcome;
@@ -21,6 +22,7 @@ impl<M: Space> Cpu<M> {
     pub fn step(&mut self, busy: u8, slice: bool, clock: u32) -> Outcome
         requires { self.old.life ≡ Life.Running }
         ensures effect { step M.access busy slice clock self.old ≡ record { state = self.new; outcome = result } }
+        ensures turn { EndsTurn M.access busy self.old (record { state = self.new; outcome = result }) }
         ensures transfer { OpensLink result }
         ensures stray { IsNotStray result }
     {

@@ -1,9 +1,10 @@
 -- What each access of a memory answers where it is allowed, and what an answer tells.
-use Rattle.std.proofs.Common.{◌≡◌, ℕ, ◌+◌, ◌≤◌, List, [], ◌∷◌, length, true, ◌&&◌, Ok, ◌⊎◌, arith}
+use Rattle.std.proofs.Common.{◌≡◌, ℕ, ◌+◌, ◌^◌, ◌≤◌, List, [], ◌∷◌, length, true, ◌&&◌, Ok, ◌⊎◌, arith}
 use Rattle.std.specs.Int.{w32, to_le_bytes, from_le_bytes}
 use Rattle.std.proofs.lemmas.Bool.Decides.{nat_tests}
-use Rattle.tn_mem.specs.Memories.{most_neg, reachable, allows_block, allows_word, put, block, fetch, store_byte, load, store, test_block, copy_block}
-use Rattle.tn_mem.specs.AccessTests.{fits-reachable, reachable-fits, reachable-allows_word, allowed-answer_if, answer_if-allowed}
+use Rattle.tn_mem.specs.Memories.{most_neg, reachable, allows_block, allows_word, put, block, fetch, store_byte, load, store}
+use Rattle.tn_mem.specs.Memories.{test_block, copy_block}
+use Rattle.tn_mem.specs.Inner.AccessTests.{fits-reachable, reachable-fits, reachable-allows_word, allowed-answer_if, answer_if-allowed}
 use Rattle.tn_mem.proofs.Puts.{IsInside, byte_at}
 
 -- ---- tests
@@ -14,9 +15,9 @@ inside-reachable m a n test =
     let h = fits-reachable (length m) a n test in
     record { low = omega (arith, h.0); high = omega (arith, h.0, h.1) }
 
--- a block that lies in the memory is reachable from word 9 on
-pub reachable-inside : (m : List ℕ) (a n : ℕ) → IsInside m a n → most_neg + 36 ≤ a → reachable (length m) a n ≡ true
-reachable-inside m a n inside low = reachable-fits (length m) a n low (omega arith)
+-- a block that lies in a memory of at most 2 ^ 31 bytes is reachable from word 9 on
+pub reachable-inside : (m : List ℕ) (a n : ℕ) → length m ≤ 2 ^ 31 → IsInside m a n → most_neg + 36 ≤ a → reachable (length m) a n ≡ true
+reachable-inside m a n small inside low = reachable-fits (length m) a n low (omega arith) (omega arith)
 
 pub inside-word : (m : List ℕ) (a : ℕ) → allows_word (length m) a ≡ true → IsInside m a 4
 inside-word m a test = inside-reachable m a 4 (reachable-allows_word (length m) a test).1
@@ -50,7 +51,9 @@ pub test_block-allowed : (m : List ℕ) (a n : ℕ) → allows_block (length m) 
 unfolding test_block
 test_block-allowed m a n test = answer_if-allowed (allows_block (length m) a n) tt test
 
-pub copy_block-allowed : (m : List ℕ) (from to n : ℕ) → allows_block (length m) from n ≡ true → allows_block (length m) to n ≡ true → copy_block m from to n ≡ Ok (put m to (block m from n))
+pub copy_block-allowed :
+    (m : List ℕ) (from to n : ℕ) → allows_block (length m) from n ≡ true → allows_block (length m) to n ≡ true
+    → copy_block m from to n ≡ Ok (put m to (block m from n))
 unfolding copy_block
 copy_block-allowed m from to n source target =
     answer_if-allowed (allows_block (length m) from n && allows_block (length m) to n) (put m to (block m from n)) (rw (source, target))
@@ -77,8 +80,11 @@ pub allowed-test_block : (m : List ℕ) (a n : ℕ) → test_block m a n ≡ Ok 
 unfolding test_block
 allowed-test_block m a n e = (allowed-answer_if (allows_block (length m) a n) tt tt e).0
 
-pub allowed-copy_block : (m n : List ℕ) (from to count : ℕ) → copy_block m from to count ≡ Ok n → (allows_block (length m) from count ≡ true) × (allows_block (length m) to count ≡ true) × (n ≡ put m to (block m from count))
+pub allowed-copy_block :
+    (m n : List ℕ) (from to count : ℕ) → copy_block m from to count ≡ Ok n
+    → (allows_block (length m) from count ≡ true) × (allows_block (length m) to count ≡ true) × (n ≡ put m to (block m from count))
 unfolding copy_block
 allowed-copy_block m n from to count e =
-    let h = allowed-answer_if (allows_block (length m) from count && allows_block (length m) to count) (put m to (block m from count)) n e in
+    let h = allowed-answer_if (allows_block (length m) from count && allows_block (length m) to count)
+    (put m to (block m from count)) n e in
     (grind (arith, nat_tests), grind (arith, nat_tests), h.1)

@@ -2,7 +2,10 @@
 use Rattle.std.proofs.Common.{◌≡◌, ℕ, ◌+◌, ◌-◌, ◌^◌, ◌<◌, List, length, slice_index, Ok, arith}
 use Rattle.std.specs.Int.{w32, to_le_bytes}
 use Rattle.std.proofs.lemmas.List.{places, get_or_past}
-use Rattle.tn_mem.specs.Memories.{most_neg, put, block, fetch, load}
+use Rattle.tn_mem.specs.Spaces.{ReadsBytes}
+use Rattle.tn_mem.specs.Memories.{most_neg, put, block, fetch, load, plain_access}
+use Rattle.tn_mem.specs.Guards.{Guarded, guarded}
+use Rattle.tn_mem.specs.Inner.GuardLaws.{allowed-unless_met}
 use Rattle.tn_mem.proofs.Puts.{IsInside}
 use Rattle.tn_mem.proofs.Allowed.{allowed-fetch, allowed-load}
 
@@ -14,7 +17,8 @@ pub IsBytes-block : (m : List ℕ) (a n : ℕ) → IsBytes m → IsBytes (block 
 unfolding block
 IsBytes-block m a n bytes = λ k. grind (arith, places, get_or_past, bytes (a - most_neg + k))
 
-pub IsBytes-put : (m : List ℕ) (a : ℕ) (written : List ℕ) → IsInside m a (length written) → IsBytes m → IsBytes written → IsBytes (put m a written)
+pub IsBytes-put :
+    (m : List ℕ) (a : ℕ) (written : List ℕ) → IsInside m a (length written) → IsBytes m → IsBytes written → IsBytes (put m a written)
 unfolding put
 IsBytes-put m a written inside bytes others = λ k. grind (arith, places, get_or_past, bytes k, others (k - (a - most_neg)))
 
@@ -29,3 +33,10 @@ load-below m a v bytes e =
     let h = allowed-load m a v e in
     let b = IsBytes-block m a 4 bytes in
     omega (arith, h.1, b 0, b 1, b 2, b 3)
+
+-- what is read of a memory of bytes, guarded or not, is bytes
+pub reads-bytes : (m : List ℕ) → IsBytes m → ReadsBytes plain_access m
+reads-bytes m bytes = λ a v e. fetch-below m a v bytes e
+
+pub reads-guarded_bytes : (s : Guarded) → IsBytes s.bytes → ReadsBytes guarded s
+reads-guarded_bytes s bytes = λ a v e. fetch-below s.bytes a v bytes (allowed-unless_met s a 1 (fetch s.bytes a) v e).1

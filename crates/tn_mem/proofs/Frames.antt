@@ -1,8 +1,10 @@
 -- Memories that differ in one region alone.
-use Rattle.std.proofs.Common.{◌≡◌, ℕ, ◌+◌, ◌<◌, ◌≤◌, List, [], ◌∷◌, length, Bool, true, false, Ok, inl, inr, subst, refl, sym, ap, ◌∙◌, arith}
+use Rattle.std.proofs.Common.{◌≡◌, ℕ, ◌+◌, ◌<◌, ◌≤◌, List, [], ◌∷◌, length, Bool, true, false, Ok, inl, inr, subst, refl, sym, ap}
+use Rattle.std.proofs.Common.{◌∙◌, arith}
 use Rattle.std.specs.Int.{w32, to_le_bytes, from_le_bytes}
 use Rattle.tn_mem.specs.Memories.{most_neg, allows_word, answer_if, put, block, fetch, store_byte, load, store, copy_block}
-use Rattle.tn_mem.proofs.Puts.{IsInside, byte_at, length-put, length-block, block-none, put-none, byte_at-put_below, byte_at-put_above, same_block}
+use Rattle.tn_mem.proofs.Puts.{IsInside, byte_at, length-put, length-block, block-none, put-none, byte_at-put_below}
+use Rattle.tn_mem.proofs.Puts.{byte_at-put_above, same_block}
 use Rattle.tn_mem.proofs.Allowed.{block_cases, inside-reachable, inside-word, allowed-store_byte, allowed-store, allowed-copy_block}
 
 -- n is m but for the bytes from one address up to, but not including, another
@@ -64,7 +66,9 @@ changed-copy_block m n from to count e =
         | inr target ↦
             let size = length-block m from count (inside-reachable m from count source) in
             let inside : IsInside m to (length (block m from count)) = rw size (inside-reachable m to count target) in
-            rw h.2 (subst (λ (k : ℕ). Changed m (put m to (block m from count)) to (to + k)) size (changed-put m to (block m from count) inside))
+            rw h.2
+            (subst (λ (k : ℕ). Changed m (put m to (block m from count)) to (to + k)) size
+            (changed-put m to (block m from count) inside))
       ]
     ]
 
@@ -80,17 +84,21 @@ fetch-changed_above m n from to x c low h = rw (c.size, c.above x low h) refl
 
 pub block-changed_below : (m n : List ℕ) (from to x k : ℕ) → Changed m n from to → IsInside m x k → x + k ≤ from → block n x k ≡ block m x k
 block-changed_below m n from to x k c inside h =
-    same_block n m x x k (record { low = inside.low; high = omega (arith, c.size) }) inside (λ i below. c.below (x + i) (omega arith) (omega arith))
+    let after : IsInside n x k = record { low = inside.low; high = omega (arith, c.size) } in
+    same_block n m x x k after inside (λ i below. c.below (x + i) (omega arith) (omega arith))
 
 pub block-changed_above : (m n : List ℕ) (from to x k : ℕ) → Changed m n from to → IsInside m x k → to ≤ x → block n x k ≡ block m x k
 block-changed_above m n from to x k c inside h =
-    same_block n m x x k (record { low = inside.low; high = omega (arith, c.size) }) inside (λ i below. c.above (x + i) (omega arith) (omega arith))
+    let after : IsInside n x k = record { low = inside.low; high = omega (arith, c.size) } in
+    same_block n m x x k after inside (λ i below. c.above (x + i) (omega arith) (omega arith))
 
 -- words of memories of one length are the same where their bytes are
 load-by_block : (m n : List ℕ) (x : ℕ) → length n ≡ length m → (IsInside m x 4 → block n x 4 ≡ block m x 4) → load n x ≡ load m x
 unfolding load
 load-by_block m n x sizes same =
-    rw sizes (allowed (allows_word (length m) x) (from_le_bytes w32 (block n x 4)) (from_le_bytes w32 (block m x 4)) (λ test. ap (from_le_bytes w32) (same (inside-word m x test))))
+    rw sizes
+    (allowed (allows_word (length m) x) (from_le_bytes w32 (block n x 4)) (from_le_bytes w32 (block m x 4))
+    (λ test. ap (from_le_bytes w32) (same (inside-word m x test))))
   where
     allowed : (test : Bool) (v w : ℕ) → (test ≡ true → v ≡ w) → answer_if test v ≡ answer_if test w
     allowed true v w h = ap Ok (h refl)

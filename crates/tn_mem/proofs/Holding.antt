@@ -1,10 +1,10 @@
 -- A memory, and a guarded memory, hold a memory.
 use Rattle.std.proofs.Common.{◌≡◌, ℕ, List, length, Result, refl, ap, ◌∙◌}
 use Rattle.tn_mem.specs.declared.touches.Touch.{Touch}
-use Rattle.tn_mem.specs.Memories.{fetch, store_byte, load, store, test_block, copy_block, plain}
+use Rattle.tn_mem.specs.Memories.{fetch, store_byte, load, store, test_block, copy_block, plain_access}
 use Rattle.tn_mem.specs.Guards.{Guarded, unless_met, over, guarded}
-use Rattle.tn_mem.specs.GuardLaws.{allowed-unless_met, unless_met-apart}
-use Rattle.tn_mem.specs.AccessTests.{allows_word-reachable}
+use Rattle.tn_mem.specs.Inner.GuardLaws.{allowed-unless_met, unless_met-apart}
+use Rattle.tn_mem.specs.Inner.AccessTests.{allows_word-reachable}
 use Rattle.tn_mem.specs.Holdings.{HoldsMemory}
 use Rattle.tn_mem.proofs.Allowed.{allowed-test_block, store_byte-allowed, store-allowed, copy_block-allowed}
 
@@ -13,7 +13,7 @@ same_test : (m n : List ℕ) (a k : ℕ) → length m ≡ length n → test_bloc
 unfolding test_block
 same_test m n a k sizes = rw sizes refl
 
-pub plain_holds : HoldsMemory plain (λ (m : List ℕ). m) (λ (s : List ℕ) (m : List ℕ). m)
+pub plain_holds : HoldsMemory plain_access (λ (m : List ℕ). m) (λ (s : List ℕ) (m : List ℕ). m)
 plain_holds =
     record {
       memory_of = λ s m. refl;
@@ -25,7 +25,9 @@ plain_holds =
       set_byte = λ s a v h. store_byte-allowed s a v (allowed-test_block s a 1 h);
       word = λ s a aligned h. refl;
       set_word = λ s a v aligned h. store-allowed s a v (allows_word-reachable (length s) a aligned (allowed-test_block s a 4 h));
-      copy = λ s from to n source target. copy_block-allowed s from to n (allowed-test_block s from n source) (allowed-test_block s to n target);
+      copy =
+          λ s from to n source target. copy_block-allowed s from to n (allowed-test_block s from n source)
+          (allowed-test_block s to n target);
     }
 
 pub guarded_holds : HoldsMemory guarded (λ (s : Guarded). s.bytes) (λ (s : Guarded) (m : List ℕ). record s { bytes = m })

@@ -1,23 +1,29 @@
 -- What is read of a memory after a write.
-use Rattle.std.proofs.Common.{add-zero, ◌≡◌, ℕ, ◌+◌, ◌^◌, ◌<◌, ◌≤◌, List, [], ◌∷◌, length, take, drop, slice_index, true, Ok, ap, ◌∙◌, refl, arith}
+use Rattle.std.proofs.Common.{add-zero, ◌≡◌, ℕ, ◌+◌, ◌^◌, ◌<◌, ◌≤◌, List, [], ◌∷◌, length, take, drop, slice_index, true, Ok, ap}
+use Rattle.std.proofs.Common.{◌∙◌, refl, arith}
 use Rattle.std.specs.Int.{w32, to_le_bytes, from_le_bytes}
 use Rattle.std.proofs.lemmas.Nat.{from_le_bytes-to_le_bytes_4}
 use Rattle.tn_mem.specs.Memories.{most_neg, reachable, allows_word, put, fetch, store_byte, load, store}
-use Rattle.tn_mem.proofs.Puts.{IsInside, byte_at, length-put, byte_at-put_below, byte_at-put_above, byte_at-put_inside, block-put, block-put_part, block-put_below, block-put_above}
+use Rattle.tn_mem.proofs.Puts.{IsInside, byte_at, length-put, byte_at-put_below, byte_at-put_above, byte_at-put_inside, block-put}
+use Rattle.tn_mem.proofs.Puts.{block-put_part, block-put_below, block-put_above}
 use Rattle.tn_mem.proofs.Allowed.{inside-reachable, inside-word, fetch-allowed, load-allowed, allowed-store_byte, allowed-store}
 
 -- ---- bytes
 
-pub fetch-put_below : (m : List ℕ) (a : ℕ) (bytes : List ℕ) (x : ℕ) → IsInside m a (length bytes) → most_neg ≤ x → x < a → fetch (put m a bytes) x ≡ fetch m x
+pub fetch-put_below :
+    (m : List ℕ) (a : ℕ) (bytes : List ℕ) (x : ℕ) → IsInside m a (length bytes) → most_neg ≤ x → x < a → fetch (put m a bytes) x ≡ fetch m x
 unfolding fetch
 fetch-put_below m a bytes x inside low below = rw (length-put m a bytes inside, byte_at-put_below m a bytes x inside low below) refl
 
-pub fetch-put_above : (m : List ℕ) (a : ℕ) (bytes : List ℕ) (x : ℕ) → IsInside m a (length bytes) → a + length bytes ≤ x → fetch (put m a bytes) x ≡ fetch m x
+pub fetch-put_above :
+    (m : List ℕ) (a : ℕ) (bytes : List ℕ) (x : ℕ) → IsInside m a (length bytes) → a + length bytes ≤ x → fetch (put m a bytes) x ≡ fetch m x
 unfolding fetch
 fetch-put_above m a bytes x inside above = rw (length-put m a bytes inside, byte_at-put_above m a bytes x inside above) refl
 
 -- a byte of what was written, where it is reachable
-pub fetch-put_inside : (m : List ℕ) (a : ℕ) (bytes : List ℕ) (k : ℕ) → IsInside m a (length bytes) → k < length bytes → reachable (length m) (a + k) 1 ≡ true → fetch (put m a bytes) (a + k) ≡ Ok (slice_index bytes k)
+pub fetch-put_inside :
+    (m : List ℕ) (a : ℕ) (bytes : List ℕ) (k : ℕ) → IsInside m a (length bytes) → k < length bytes → reachable (length m) (a + k) 1 ≡ true
+    → fetch (put m a bytes) (a + k) ≡ Ok (slice_index bytes k)
 fetch-put_inside m a bytes k inside below test =
     fetch-allowed (put m a bytes) (a + k) (rw (length-put m a bytes inside) test) ∙ ap Ok (byte_at-put_inside m a bytes k inside below)
 
@@ -31,18 +37,24 @@ fetch-store_byte m n a v e =
 
 -- ---- words
 
-pub load-put_below : (m : List ℕ) (a : ℕ) (bytes : List ℕ) (x : ℕ) → IsInside m a (length bytes) → most_neg ≤ x → x + 4 ≤ a → load (put m a bytes) x ≡ load m x
+pub load-put_below :
+    (m : List ℕ) (a : ℕ) (bytes : List ℕ) (x : ℕ) → IsInside m a (length bytes) → most_neg ≤ x → x + 4 ≤ a
+    → load (put m a bytes) x ≡ load m x
 unfolding load
 load-put_below m a bytes x inside low below = rw (length-put m a bytes inside, block-put_below m a bytes x 4 inside low below) refl
 
-pub load-put_above : (m : List ℕ) (a : ℕ) (bytes : List ℕ) (x : ℕ) → IsInside m a (length bytes) → a + length bytes ≤ x → load (put m a bytes) x ≡ load m x
+pub load-put_above :
+    (m : List ℕ) (a : ℕ) (bytes : List ℕ) (x : ℕ) → IsInside m a (length bytes) → a + length bytes ≤ x → load (put m a bytes) x ≡ load m x
 unfolding load
 load-put_above m a bytes x inside above = rw (length-put m a bytes inside, block-put_above m a bytes x 4 inside above) refl
 
 -- a word among the bytes that were written
-pub load-put_part : (m : List ℕ) (a : ℕ) (bytes : List ℕ) (j : ℕ) → IsInside m a (length bytes) → j + 4 ≤ length bytes → allows_word (length m) (a + j) ≡ true → load (put m a bytes) (a + j) ≡ Ok (from_le_bytes w32 (take 4 (drop j bytes)))
+pub load-put_part :
+    (m : List ℕ) (a : ℕ) (bytes : List ℕ) (j : ℕ) → IsInside m a (length bytes) → j + 4 ≤ length bytes
+    → allows_word (length m) (a + j) ≡ true → load (put m a bytes) (a + j) ≡ Ok (from_le_bytes w32 (take 4 (drop j bytes)))
 load-put_part m a bytes j inside within test =
-    load-allowed (put m a bytes) (a + j) (rw (length-put m a bytes inside) test) ∙ ap (λ (word : List ℕ). Ok (from_le_bytes w32 word)) (block-put_part m a bytes j 4 inside within)
+    load-allowed (put m a bytes) (a + j) (rw (length-put m a bytes inside) test) ∙ ap (λ (word : List ℕ). Ok (from_le_bytes w32 word))
+    (block-put_part m a bytes j 4 inside within)
 
 -- a word that was written is loaded
 pub load-put : (m : List ℕ) (a w : ℕ) → w < 2 ^ 32 → allows_word (length m) a ≡ true → load (put m a (to_le_bytes w32 w)) a ≡ Ok w

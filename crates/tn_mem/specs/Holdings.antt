@@ -16,5 +16,9 @@ pub record HoldsMemory {M : Type 0} (access : Access M) (memory : M → List ℕ
   pub byte : (s : M) (a : ℕ) → access.block s a 1 ≡ Ok tt → access.byte s a ≡ fetch (memory s) a
   pub set_byte : (s : M) (a v : ℕ) → access.block s a 1 ≡ Ok tt → access.set_byte s a v ≡ Ok (over s (put (memory s) a (v ∷ [])))
   pub word : (s : M) (a : ℕ) → a % 4 ≡ 0 → access.block s a 4 ≡ Ok tt → access.word s a ≡ load (memory s) a
-  pub set_word : (s : M) (a v : ℕ) → a % 4 ≡ 0 → access.block s a 4 ≡ Ok tt → access.set_word s a v ≡ Ok (over s (put (memory s) a (to_le_bytes w32 v)))
-  pub copy : (s : M) (from to n : ℕ) → access.block s from n ≡ Ok tt → access.block s to n ≡ Ok tt → access.copy s from to n ≡ Ok (over s (put (memory s) to (block (memory s) from n)))
+  pub set_word :
+      (s : M) (a v : ℕ) → a % 4 ≡ 0 → access.block s a 4 ≡ Ok tt
+      → access.set_word s a v ≡ Ok (over s (put (memory s) a (to_le_bytes w32 v)))
+  pub copy :
+      (s : M) (from to n : ℕ) → access.block s from n ≡ Ok tt → access.block s to n ≡ Ok tt
+      → access.copy s from to n ≡ Ok (over s (put (memory s) to (block (memory s) from n)))

@@ -1,5 +1,6 @@
 -- A memory as the list of its bytes, of which the first stands at MostNeg.
-use Rattle.std.specs.Prelude.{ℕ, ◌+◌, ◌-◌, ◌%◌, ◌==◌, Bool, ◌&&◌, ◌||◌, nat_le, if◌then◌else◌, List, [], ◌∷◌, ◌++◌, length, take, drop, slice_index, Result, Ok, Err, ⊤}
+use Rattle.std.specs.Prelude.{ℕ, ◌+◌, ◌-◌, ◌%◌, ◌^◌, ◌==◌, Bool, ◌&&◌, ◌||◌, nat_le, if◌then◌else◌, List, [], ◌∷◌, ◌++◌, length}
+use Rattle.std.specs.Prelude.{take, drop, slice_index, Result, Ok, Err, ⊤}
 use Rattle.std.specs.Int.{w32, to_le_bytes, from_le_bytes}
 use Rattle.tn_mem.specs.declared.touches.Touch.{Touch}
 use Rattle.tn_mem.specs.declared.touches.Touch.TheVariants.{Outside}
@@ -9,9 +10,10 @@ use Rattle.tn_mem.specs.Spaces.{Access}
 abbrev pub most_neg : ℕ
 most_neg = 0x80000000
 
--- a block of n bytes is wholly inside a memory of so many bytes, above word 8
+-- a block of n bytes is wholly inside a memory of so many bytes, above word 8, and its addresses are
+-- words; a memory of at most 2 ^ 31 bytes has no others
 abbrev pub reachable : ℕ → ℕ → ℕ → Bool
-reachable size a n = nat_le (most_neg + 36) a && nat_le (a - most_neg + n) size
+reachable size a n = nat_le (most_neg + 36) a && (nat_le (a - most_neg + n) size && nat_le (a + n) (2 ^ 32))
 
 -- a block of 0 bytes is allowed anywhere, any other where it is reachable
 abbrev pub allows_block : ℕ → ℕ → ℕ → Bool
@@ -59,5 +61,14 @@ copy_block m from to n =
     answer_if (allows_block (length m) from n && allows_block (length m) to n) (put m to (block m from n))
 
 -- what each access of a memory answers
-abbrev pub plain : Access (List ℕ)
-plain = record { byte = fetch; set_byte = store_byte; word = load; set_word = store; block = test_block; source = test_block; copy = copy_block }
+abbrev pub plain_access : Access (List ℕ)
+plain_access =
+    record {
+      byte = fetch;
+      set_byte = store_byte;
+      word = load;
+      set_word = store;
+      block = test_block;
+      source = test_block;
+      copy = copy_block;
+    }

@@ -2,7 +2,7 @@ ghost use Rattle.std.specs.Prelude.{◌≡◌, Ok, Err, if◌then◌else◌};
 ghost use Rattle.std.specs.Result.{result_err};
 ghost use Rattle.tn_mem.specs.Spaces.{first_refusal};
 ghost use Rattle.tn_mem.specs.Guards.{guarded, meets};
-ghost use Rattle.tn_mem.specs.GuardLaws.{guarded_lawful};
+ghost use Rattle.tn_mem.specs.Inner.GuardLaws.{guarded_lawful};
 
 use crate::memories::Memory;
 use crate::spaces::Space;

@@ -6,12 +6,12 @@
 
 mod guards;
 mod memories;
+mod sizes;
 mod spaces;
-#[cfg(test)]
-mod tests;
 mod touches;
 
 pub use guards::CodeFree;
 pub use memories::{Memory, NoMemory};
+pub use sizes::{MEMORY_SIZE_LEAST, MEMORY_SIZE_MOST};
 pub use spaces::Space;
 pub use touches::Touch;

@@ -1,7 +1,7 @@
 ghost use Rattle.std.specs.Prelude.{◌≡◌, ◌-◌, length, IfOk};
 ghost use Rattle.tn_mem.specs.Sizes.{IsMemorySize};
-ghost use Rattle.tn_mem.specs.Memories.{plain, reachable, allows_block, allows_word};
-ghost use Rattle.tn_mem.specs.Laws.{plain_lawful};
+ghost use Rattle.tn_mem.specs.Memories.{plain_access, reachable, allows_block, allows_word};
+ghost use Rattle.tn_mem.specs.Inner.MemoryLaws.{plain_lawful};
 
 use crate::spaces::Space;
 use crate::touches::Touch;
@@ -17,7 +17,8 @@ const LOWEST: u32 = 0x8000_0024;
 #[derive(Clone, Copy, Debug, PartialEq, Eq, Hash)]
 pub struct NoMemory;
 
-/// The memory of a processor, of 4,096 to 1,048,576 bytes.
+/// The memory of a processor, of [`MEMORY_SIZE_LEAST`](crate::MEMORY_SIZE_LEAST) to
+/// [`MEMORY_SIZE_MOST`](crate::MEMORY_SIZE_MOST) bytes, whole words of them.
 #[derive(Debug, Drop)]
 pub struct Memory {
     bytes: Vec<u8>,
@@ -35,7 +36,7 @@ impl Model for Memory {
 }
 
 impl Memory {
-    /// A memory that holds these bytes, the first at MostNeg.
+    /// A memory that holds these bytes, the first at MostNeg. Their number is a memory size.
     pub fn power_up(bytes: Vec<u8>) -> Memory
         requires { IsMemorySize (length bytes.items) }
         ensures { result ≡ bytes.items }
@@ -70,7 +71,7 @@ impl Memory {
 }
 
 impl Space for Memory {
-    ghost access = { plain };
+    ghost access = { plain_access };
 
     ghost lawful = { plain_lawful };
 
@@ -142,6 +143,7 @@ impl Space for Memory {
 
 /// Whether `n` bytes at an address are wholly inside a memory of so many bytes, above word 8.
 fn is_reachable(size: usize, a: u32, n: u32) -> bool
+    requires { IsMemorySize size }
     ensures { result ≡ reachable size a n }
 {
     a >= LOWEST && (a - MOST_NEG) as usize + n as usize <= size
@@ -149,6 +151,7 @@ fn is_reachable(size: usize, a: u32, n: u32) -> bool
 
 /// Whether a block of `n` bytes is allowed.
 fn is_block(size: usize, a: u32, n: u32) -> bool
+    requires { IsMemorySize size }
     ensures { result ≡ allows_block size a n }
 {
     n == 0 || is_reachable(size, a, n)
@@ -156,6 +159,7 @@ fn is_block(size: usize, a: u32, n: u32) -> bool
 
 /// Whether a word is allowed at an address.
 fn is_word(size: usize, a: u32) -> bool
+    requires { IsMemorySize size }
     ensures { result ≡ allows_word size a }
 {
     a % 4 == 0 && is_reachable(size, a, 4)

@@ -29,7 +29,8 @@ pub trait Space {
     fn set_word(&mut self, a: u32, v: u32) -> Result<(), Touch>
         ensures { Leaves result (access.set_word self.old a v) self.old self.new };
 
-    /// Whether a block of `n` bytes may be read and stored. One of 0 bytes always may.
+    /// Whether a block of `n` bytes may be read and stored. One of 0 bytes always may, and any other
+    /// ends at 2^32 at most.
     fn block(&self, a: u32, n: u32) -> Result<(), Touch>
         ensures { result ≡ access.block self.now a n };
 

@@ -2,7 +2,7 @@ use Rattle.std.proofs.Common.{◌≡◌, Some, Err, ap, ◌∙◌}
 use Rattle.std.specs.Result.{result_err}
 use Rattle.std.proofs.lemmas.Result.{err_from_is_err_and}
 use Rattle.tn_mem.specs.Guards.{guarded}
-use Rattle.tn_mem.specs.GuardLaws.{guarded_lawful}
+use Rattle.tn_mem.specs.Inner.GuardLaws.{guarded_lawful}
 use Rattle.tn_mem.proofs.Refusals.{refused}
 use Rattle.tn_mem.proofs.guards.CodeFreeSpace.copy.Goals as goal
 

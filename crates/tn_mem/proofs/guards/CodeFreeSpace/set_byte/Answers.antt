@@ -2,7 +2,7 @@ use Rattle.std.proofs.Common.{Err, ap, sym, ◌∙◌}
 use Rattle.std.specs.Result.{result_err}
 use Rattle.std.proofs.lemmas.Result.{err_from_is_err_and}
 use Rattle.tn_mem.specs.Guards.{guarded}
-use Rattle.tn_mem.specs.GuardLaws.{guarded_lawful}
+use Rattle.tn_mem.specs.Inner.GuardLaws.{guarded_lawful}
 use Rattle.tn_mem.proofs.Refusals.{refused}
 use Rattle.tn_mem.proofs.guards.CodeFreeSpace.set_byte.Goals as goal
 
@@ -10,4 +10,5 @@ pub returns-in_err-block : goal.returns-in_err-block
 returns-in_err-block c =
     let s = c.args.self.now in
     let p = err_from_is_err_and c.from_residual.result c.from_residual.ensures.1 in
-    refused (guarded.set_byte s c.args.a c.args.v) s c.from_residual.result c.in_err-block.field-0.0 (guarded_lawful.set_byte_as_block s c.args.a c.args.v ∙ ap result_err (sym c.in_err-block.ensures)) (p.1 ∙ ap Err p.2)
+    refused (guarded.set_byte s c.args.a c.args.v) s c.from_residual.result c.in_err-block.field-0.0
+    (guarded_lawful.set_byte_as_block s c.args.a c.args.v ∙ ap result_err (sym c.in_err-block.ensures)) (p.1 ∙ ap Err p.2)

@@ -1,7 +1,7 @@
 use Rattle.std.proofs.Common.{◌≡◌, ℕ, ◌<◌, List, [], ◌∷◌, length, true, ap, ◌∙◌, sym, Ok, arith}
 use Rattle.std.proofs.lemmas.Bool.Decides.{nat_tests}
 use Rattle.tn_mem.specs.Memories.{store_byte, reachable, put}
-use Rattle.tn_mem.specs.AccessTests.{answer_if-allowed}
+use Rattle.tn_mem.specs.Inner.AccessTests.{answer_if-allowed}
 use Rattle.tn_mem.proofs.Puts.{set_is_put}
 use Rattle.tn_mem.proofs.memories.MemorySpace.set_byte.Goals as goal
 
