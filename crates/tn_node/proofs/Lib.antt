@@ -3,3 +3,4 @@ pub mod Awaiting
 pub mod Pokes
 pub mod Boots
 pub mod Transfers
+pub mod Stepping
