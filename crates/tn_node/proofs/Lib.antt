@@ -4,3 +4,4 @@ pub mod Pokes
 pub mod Boots
 pub mod Transfers
 pub mod Chains
+pub mod Stepping

@@ -103,7 +103,8 @@ module _ {M : Type 0} (access : Access M) (l : ℕ) (cpu : State M) (inputs outp
     ),
   )
 
-each_link : (P : ℕ → Type 0) → P 0 → P 1 → P 2 → P 3 → (l : ℕ) → l < 4 → P l
+-- what holds of each of the four links
+pub each_link : (P : ℕ → Type 0) → P 0 → P 1 → P 2 → P 3 → (l : ℕ) → l < 4 → P l
 each_link P a b c d zero h = a
 each_link P a b c d (suc zero) h = b
 each_link P a b c d (suc (suc zero)) h = c

@@ -43,6 +43,10 @@ module _ {M : Type 0} (access : Access M) (memory : M → List ℕ) (over : M �
   abbrev pub with_memory : List ℕ → State M
   with_memory m = record cpu { memory = over cpu.memory m }
 
+  -- no address in an allowed block wraps
+  block_end : (a n : ℕ) → 0 < n → access.block cpu.memory a n ≡ Ok tt → a + n ≤ 2 ^ 32
+  block_end a n some allowed = laws.source_end cpu.memory a n some (laws.source_of_block cpu.memory a n allowed)
+
   -- ---- in
 
   in_goes_on : (e : Engine) (inputs outputs : List (Option Engine)) (m : List ℕ) (a n k byte : ℕ) → engine_of inputs l ≡ Some e
@@ -101,11 +105,12 @@ module _ {M : Type 0} (access : Access M) (memory : M → List ℕ) (over : M �
   -- The bytes that an input engine waits for go from its pointer on, where the space allows that. Behind
   -- the last the engine is closed, and its process is woken.
   pub transfers_in : (e : Engine) (inputs outputs : List (Option Engine)) (bytes : List ℕ) → engine_of inputs l ≡ Some e
-      → 1 ≤ e.left → e.left ≡ length bytes → access.block cpu.memory e.pointer e.left ≡ Ok tt → e.pointer + e.left ≤ 2 ^ 32
+      → 1 ≤ e.left → e.left ≡ length bytes → access.block cpu.memory e.pointer e.left ≡ Ok tt
       → TakesAll access l bytes (running_node cpu inputs outputs)
       (running_node (woken access e.process (with_memory (put (memory cpu.memory) e.pointer bytes))) (slice_set inputs l None) outputs)
-  transfers_in e inputs outputs [] is some count allowed fits = absurd (omega (arith, some, count))
-  transfers_in e inputs outputs (byte ∷ bytes) is some count allowed fits =
+  transfers_in e inputs outputs [] is some count allowed = absurd (omega (arith, some, count))
+  transfers_in e inputs outputs (byte ∷ bytes) is some count allowed =
+      let fits : e.pointer + e.left ≤ 2 ^ 32 = block_end e.pointer e.left some allowed in
       let own : with_memory (memory cpu.memory) ≡ cpu = ap (λ m. record cpu { memory = m }) (holds.over_own cpu.memory) in
       let first : e.pointer + 0 ≡ e.pointer = omega arith in
       let rest = in_rest e inputs outputs (memory cpu.memory) e.pointer e.left 0 byte bytes is allowed fits (omega arith) count
@@ -199,8 +204,9 @@ module _ {M : Type 0} (access : Access M) (memory : M → List ℕ) (over : M �
   -- last acknowledge the engine is closed, and its process is woken.
   pub transfers_out : (pointer count process : ℕ) (inputs outputs : List (Option Engine))
       → engine_of outputs l ≡ Some (engine pointer count process)
-      → 1 ≤ count → access.block cpu.memory pointer count ≡ Ok tt → pointer + count ≤ 2 ^ 32
+      → 1 ≤ count → access.block cpu.memory pointer count ≡ Ok tt
       → SendsAll access l (block (memory cpu.memory) pointer count) (running_node cpu inputs outputs)
       (running_node (woken access process cpu) inputs (slice_set outputs l None))
-  transfers_out pointer zero process inputs outputs is some allowed fits = absurd (omega (arith, some))
-  transfers_out pointer (suc n) process inputs outputs is some allowed fits = out_rest n pointer process inputs outputs is allowed fits
+  transfers_out pointer zero process inputs outputs is some allowed = absurd (omega (arith, some))
+  transfers_out pointer (suc n) process inputs outputs is some allowed =
+      out_rest n pointer process inputs outputs is allowed (block_end pointer (suc n) some allowed)

@@ -20,6 +20,10 @@ pub record NodeState (M : Type 0) : Type 0 where
   pub inputs : List (Option Engine)
   pub outputs : List (Option Engine)
 
+-- a node of these parts
+abbrev pub node_of : {M : Type 0} → State M → Stage → Expects → List (Option Engine) → List (Option Engine) → NodeState M
+node_of cpu stage expects inputs outputs = record { cpu = cpu; stage = stage; expects = expects; inputs = inputs; outputs = outputs }
+
 -- a bootstrap that expects nothing
 abbrev pub nothing_expected : Expects
 nothing_expected = record { link = 0; got = 0; left = 0; address = 0; word = 0; sent = false }

@@ -33,13 +33,13 @@ pub struct Node<M: Space> {
 }
 
 impl<M: Space> Model for Node<M> {
-    ghost use Rattle.tn_node.specs.Nodes.{NodeState, IsNode};
+    ghost use Rattle.tn_node.specs.Nodes.{NodeState, IsNode, node_of};
 
     ghost Value = { NodeState M };
 
-    ghost view = { λ n. record { cpu = n.cpu; stage = n.stage; expects = n.expects; inputs = n.inputs; outputs = n.outputs } };
+    ghost view = { λ n. node_of n.cpu n.stage n.expects n.inputs n.outputs };
 
-    ghost invariant = { λ n. IsNode (record { cpu = n.cpu; stage = n.stage; expects = n.expects; inputs = n.inputs; outputs = n.outputs }) };
+    ghost invariant = { λ n. IsNode (node_of n.cpu n.stage n.expects n.inputs n.outputs) };
 }
 
 impl<M: Space> Node<M> {
