@@ -8,7 +8,8 @@ use Rattle.tn_alu.specs.SignedWords.{signed, word_of}
 -- a difference, where the number that is taken away is no greater than b and k borrowed words
 pub word_of-difference : (b taken k : ℕ) → taken ≤ b + k * 2 ^ 32 → word_of (pos b -ℤ pos taken) ≡ (b + k * 2 ^ 32 - taken) % 2 ^ 32
 word_of-difference b taken k enough =
-    ap unsigned_abs (int_rem_euclid_is (pos b -ℤ pos taken) (pos (2 ^ 32)) (2 ^ 32) k (b + k * 2 ^ 32 - taken) (lit< tt) refl (omega (arith, ints)))
+    ap unsigned_abs
+    (int_rem_euclid_is (pos b -ℤ pos taken) (pos (2 ^ 32)) (2 ^ 32) k (b + k * 2 ^ 32 - taken) (lit< tt) refl (omega (arith, ints)))
 
 -- the word of a number is a word
 pub word_of-below : (number : ℤ) → word_of number < 2 ^ 32
@@ -33,7 +34,8 @@ pub word_of-sum : (b a : ℕ) → b < 2 ^ 32 → a < 2 ^ 32 → word_of (signed 
 word_of-sum b a hb ha = wraps_to (signed b +ℤ signed a) ((b + a) % 2 ^ 32) (omega arith) (wrapping_add-bits w32 b a hb ha)
 
 pub word_of-signed_difference : (b a : ℕ) → b < 2 ^ 32 → a < 2 ^ 32 → word_of (signed b -ℤ signed a) ≡ (b + (2 ^ 32 - a)) % 2 ^ 32
-word_of-signed_difference b a hb ha = wraps_to (signed b -ℤ signed a) ((b + (2 ^ 32 - a)) % 2 ^ 32) (omega arith) (wrapping_sub-bits w32 b a hb ha)
+word_of-signed_difference b a hb ha =
+    wraps_to (signed b -ℤ signed a) ((b + (2 ^ 32 - a)) % 2 ^ 32) (omega arith) (wrapping_sub-bits w32 b a hb ha)
 
 pub word_of-product : (b a : ℕ) → b < 2 ^ 32 → a < 2 ^ 32 → word_of (signed b *ℤ signed a) ≡ (b * a) % 2 ^ 32
 word_of-product b a hb ha = wraps_to (signed b *ℤ signed a) ((b * a) % 2 ^ 32) (omega arith) (wrapping_mul-bits w32 b a hb ha)

@@ -15,7 +15,8 @@ pub sum-small : (b a : ℕ) → b + a < 2 ^ 31 → checked (signed b +ℤ signed
 sum-small b a small = grind (arith, ints, nat_tests)
 
 -- a sum of an address, which is MostNeg or above, and an offset
-pub sum-address : (b a : ℕ) → 2 ^ 31 ≤ b → a < 2 ^ 31 → b + a < 2 ^ 32 → checked (signed b +ℤ signed a) ≡ record { value = Some (b + a); error = false }
+pub sum-address :
+    (b a : ℕ) → 2 ^ 31 ≤ b → a < 2 ^ 31 → b + a < 2 ^ 32 → checked (signed b +ℤ signed a) ≡ record { value = Some (b + a); error = false }
 sum-address b a address offset in_word = grind (arith, ints, nat_tests)
 
 -- a difference of numbers below 2 ^ 31 that is no less than 0
