@@ -5,6 +5,15 @@
 #![tactic(auto)]
 
 mod codings;
+mod commands;
+mod faults;
+mod flat_sources;
+mod layouts;
+mod loader;
+mod modules;
+mod operations;
+mod stores;
+mod texts;
 
 use std::alloc::Global;
 use std::{env, fs, io};
@@ -12,7 +21,18 @@ use tn_io::{HostOut, Out};
 use tn_tables::{Case, Line, Report, Stop, cases_of};
 
 /// The tables, in the order of what is printed.
-const TABLES: [&str; 1] = ["codings"];
+const TABLES: [&str; 10] = [
+    "commands",
+    "stores",
+    "texts",
+    "faults",
+    "flat_sources",
+    "operations",
+    "codings",
+    "layouts",
+    "loader",
+    "modules",
+];
 
 fn main(rt: HostRuntime) -> io::Result<()> {
     let folder = folder_of(&rt)?;
@@ -66,6 +86,10 @@ fn run_table(alloc: Global, table: &str, text: &str, report: &mut Report) -> Res
 /// Runs a case of a table: line by line, where no line rests on those before.
 fn run_case(alloc: Global, table: &str, case: &Case<'_>, report: &mut Report) -> Result<(), Stop> {
     match table {
+        "commands" => commands::run_case(alloc, case, report),
+        "stores" => stores::run_case(alloc, case, report),
+        "layouts" => layouts::run_case(alloc, case, report),
+        "modules" => modules::run_case(alloc, case, report),
         table => run_lines(alloc, table, case, report),
     }
 }
@@ -82,7 +106,12 @@ fn run_lines(alloc: Global, table: &str, case: &Case<'_>, report: &mut Report) -
 /// What a line gives.
 fn answer(alloc: Global, table: &str, line: &Line<'_>) -> Result<Vec<u8>, Stop> {
     match table {
+        "texts" => texts::answer(alloc, line),
+        "faults" => faults::answer(alloc, line),
+        "flat_sources" => flat_sources::answer(alloc, line),
+        "operations" => operations::answer(alloc, line),
         "codings" => codings::answer(alloc, line),
+        "loader" => loader::answer(alloc, line),
         _ => Err(Stop::BadCase),
     }
 }

@@ -26,8 +26,9 @@ impl Report {
     /// Ends a case, and tells one that is none.
     pub fn end_case(&mut self, name: &str, ended: Result<(), Stop>) -> Result<(), Stop> {
         match ended {
+            Ok(()) => Ok(()),
             Err(Stop::BadCase) => self.line(&[name, ": is no case"]),
-            ended => ended,
+            Err(Stop::NoMemory) => self.line(&[name, ": no memory"]),
         }
     }
 
@@ -48,8 +49,8 @@ impl Report {
     ) -> Result<(), Stop> {
         match came {
             Ok(came) => self.compare(alloc, case, line.text, line.wanted(), &came),
-            Err(Stop::BadCase) => self.line(&[case, ": ", line.text, ": is no line of this table"]),
-            Err(stop) => Err(stop),
+            Err(Stop::BadCase) => self.line(&[case, ": ", line.text, ": is no line of its table"]),
+            Err(Stop::NoMemory) => self.line(&[case, ": ", line.text, ": no memory"]),
         }
     }
 
