@@ -1,0 +1,41 @@
+use std::alloc::Global;
+use tn_isa::{Fun, Mnemonic, mnemonic_name, mnemonic_of};
+use tn_prefix::{decode, encode, length};
+use tn_tables::{Line, Stop, said, spelled};
+
+/// What a line of the table of codings gives.
+pub fn answer(alloc: Global, line: &Line<'_>) -> Result<Vec<u8>, Stop> {
+    match line.words.as_slice() {
+        ["encode", name, operand] => coding(alloc, name, operand_of(operand)?),
+        ["length", operand] => {
+            let bytes = length(operand_of(operand)?);
+            Ok(bytes.to_string(alloc)?.into_bytes())
+        }
+        ["decode"] => decoding(alloc, &line.bytes),
+        _ => Err(Stop::BadCase),
+    }
+}
+
+/// The operand of decimal digits.
+fn operand_of(text: &str) -> Result<i32, Stop> {
+    text.parse::<i32>().ok().ok_or(Stop::BadCase)
+}
+
+/// The bytes of an instruction.
+#[tactic(auto, using(tn_prefix::proofs::Instructions::coded_functions))]
+fn coding(alloc: Global, name: &str, operand: i32) -> Result<Vec<u8>, Stop> {
+    match mnemonic_of(name) {
+        Some(Mnemonic::Direct(fun)) => spelled(alloc, &encode(fun, operand)),
+        _ if name == "opr" => spelled(alloc, &encode(Fun::Opr, operand)),
+        _ => Err(Stop::BadCase),
+    }
+}
+
+/// The first instruction of bytes: its function, its operand and how many bytes it has.
+fn decoding(alloc: Global, bytes: &[u8]) -> Result<Vec<u8>, Stop> {
+    let Some((fun, operand, count)) = decode(bytes) else {
+        return said(alloc, "none");
+    };
+    let name = mnemonic_name(Mnemonic::Direct(fun));
+    Ok(format!(in alloc; "{name} #{operand:08X} {count}")?.into_bytes())
+}

@@ -1,0 +1,178 @@
+ghost use Rattle.std.specs.Prelude.{◌≡◌, ◌-◌, ◌^◌, ◌<◌, ◌≤◌, length, IfOk};
+ghost use Rattle.tn_io.specs.FileLists.{HasDistinctNames};
+ghost use Rattle.tn_io.specs.MemStores.{files_of};
+
+use crate::commands::held;
+use std::alloc::Global;
+use tn_io::{FileOut, FileText, MemOut, MemStore, Out, OutFault, PutKind, SafeStore, Store};
+use tn_list::Printed;
+use tn_tables::{Case, Line, Report, Stop, decimal, said};
+use tn_text::{Put, PutRefused};
+
+/// Runs a case of the table of stores and outputs. Its first line says what it is of.
+pub fn run_case(alloc: Global, case: &Case<'_>, report: &mut Report) -> Result<(), Stop> {
+    let (first, lines) = case.lines.split_first().ok_or(Stop::BadCase)?;
+    match first.words.as_slice() {
+        ["store", "safe", name] => {
+            let mut store = SafeStore::new(one_file(alloc, name, &first.bytes)?);
+            for line in lines {
+                let came = safe_answer(alloc, &mut store, line);
+                report.answer(alloc, case.name, line, came)?;
+            }
+            Ok(())
+        }
+        ["store", "failing", name, fails @ ..] => {
+            let files = one_file(alloc, name, &first.bytes)?;
+            let mut store = MemStore::new(files, decimals(alloc, fails)?);
+            run_failing(alloc, case, lines, &mut store, report)
+        }
+        ["output", fails @ ..] => {
+            let out = MemOut::new(decimals(alloc, fails)?);
+            run_output(alloc, case, lines, out, report)
+        }
+        _ => Err(Stop::BadCase),
+    }
+}
+
+fn run_failing(
+    alloc: Global,
+    case: &Case<'_>,
+    lines: &[Line<'_>],
+    store: &mut MemStore,
+    report: &mut Report,
+) -> Result<(), Stop> {
+    for line in lines {
+        let came = match line.words.as_slice() {
+            ["file", name] => held(alloc, store.file(name)),
+            _ => store_answer(alloc, store, line),
+        };
+        report.answer(alloc, case.name, line, came)?;
+    }
+    Ok(())
+}
+
+fn safe_answer(alloc: Global, store: &mut SafeStore, line: &Line<'_>) -> Result<Vec<u8>, Stop> {
+    match line.words.as_slice() {
+        ["file", name] => held(alloc, store.file(name)),
+        _ => store_answer(alloc, store, line),
+    }
+}
+
+/// What a store answers to a call.
+fn store_answer<S: Store>(alloc: Global, store: &mut S, line: &Line<'_>) -> Result<Vec<u8>, Stop> {
+    match line.words.as_slice() {
+        ["get", name, limit] => get(alloc, store, name, decimal(limit)?),
+        ["create", name] if name.len() <= 255 => match store.create(name) {
+            Ok(()) => said(alloc, "done"),
+            Err(fault) => Ok(fault.to_string(alloc)?.into_bytes()),
+        },
+        ["write"] => match store.write(&line.bytes) {
+            Ok(()) => said(alloc, "done"),
+            Err(fault) => Ok(fault.to_string(alloc)?.into_bytes()),
+        },
+        ["close"] => match store.close() {
+            Ok(()) => said(alloc, "done"),
+            Err(fault) => Ok(fault.to_string(alloc)?.into_bytes()),
+        },
+        ["append"] => append(alloc, store, &line.bytes),
+        _ => Err(Stop::BadCase),
+    }
+}
+
+/// The bytes of a file, or why they are not read.
+fn get<S: Store>(alloc: Global, store: &mut S, name: &str, limit: u64) -> Result<Vec<u8>, Stop> {
+    if name.len() > 255 || limit == u64::MAX {
+        return Err(Stop::BadCase);
+    }
+    let mut bytes = Vec::new(alloc);
+    match store.get(name, limit, &mut bytes) {
+        Ok(()) => Ok(bytes),
+        Err(fault) => Ok(fault.to_string(alloc)?.into_bytes()),
+    }
+}
+
+/// What an output over the open file of a store answers to a write: the refusal and how many there
+/// were.
+fn append<S: Store>(alloc: Global, store: &mut S, bytes: &[u8]) -> Result<Vec<u8>, Stop> {
+    let mut out = FileOut {
+        store: &mut *store,
+        kind: None,
+        refused: 0,
+    };
+    let written = out.write(bytes);
+    let refused = out.refused;
+    match (written, out.kind) {
+        (Ok(()), None) if refused == 0 => said(alloc, "done"),
+        (Err(OutFault), Some(PutKind::Failed)) => {
+            Ok(format!(in alloc; "failed {refused}")?.into_bytes())
+        }
+        (Err(OutFault), Some(PutKind::NoMemory)) => said(alloc, "no memory"),
+        _ => said(alloc, "an answer without its kind"),
+    }
+}
+
+/// Runs lines of an output in memory, and of a sink over it.
+fn run_output(
+    alloc: Global,
+    case: &Case<'_>,
+    lines: &[Line<'_>],
+    mut out: MemOut,
+    report: &mut Report,
+) -> Result<(), Stop> {
+    for line in lines {
+        let came = match line.words.as_slice() {
+            ["write"] => match out.write(&line.bytes) {
+                Ok(()) => said(alloc, "done"),
+                Err(fault) => Ok(fault.to_string(alloc)?.into_bytes()),
+            },
+            ["put"] => put(alloc, &line.bytes, &mut out),
+            ["bytes"] => Ok(Vec::from_slice(alloc, out.bytes())?),
+            _ => Err(Stop::BadCase),
+        };
+        report.answer(alloc, case.name, line, came)?;
+    }
+    let bytes = Vec::from_slice(alloc, out.bytes())?;
+    report.compare(
+        alloc,
+        case.name,
+        "the bytes moved out",
+        &bytes,
+        &out.into_bytes(),
+    )
+}
+
+/// What a sink over an output answers to a piece.
+fn put(alloc: Global, piece: &[u8], out: &mut MemOut) -> Result<Vec<u8>, Stop> {
+    let mut printed = Printed { out: &mut *out };
+    match printed.put(piece) {
+        Ok(()) => said(alloc, "done"),
+        Err(PutRefused) => said(alloc, "refused"),
+    }
+}
+
+/// The files of a store with one file.
+#[tactic(auto, unfolding(tn_io::specs::FileLists::held, tn_io::specs::FileLists::HasDistinctNames))]
+fn one_file(alloc: Global, name: &str, bytes: &[u8]) -> Result<Vec<(FileText, Vec<u8>)>, Stop>
+    ensures { IfOk result (λ files. HasDistinctNames (files_of files.items)) }
+{
+    let name = FileText::of(name).ok_or(Stop::BadCase)?;
+    let bytes = Vec::from_slice(alloc, bytes)?;
+    let mut files = Vec::new(alloc);
+    files.push((name, bytes))?;
+    Ok(files)
+}
+
+/// A store without files.
+#[tactic(auto, unfolding(tn_io::specs::FileLists::HasDistinctNames))]
+pub fn empty_store(alloc: Global, failing: Vec<u64>) -> MemStore {
+    MemStore::new(Vec::new(alloc), failing)
+}
+
+/// Numbers in decimal.
+pub fn decimals(alloc: Global, words: &[&str]) -> Result<Vec<u64>, Stop> {
+    let mut numbers = Vec::new(alloc);
+    for word in words {
+        numbers.push(decimal(word)?)?;
+    }
+    Ok(numbers)
+}
