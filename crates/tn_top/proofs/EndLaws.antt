@@ -1,5 +1,5 @@
 -- What follows of a command from how it ended.
-use Rattle.std.proofs.Common.{◌≡◌, ◌≢◌, ℕ, ◌≤◌, ◌⊎◌, inl, inr, List, [], ◌++◌, take, append-nil, Option, Some, None, Vec, Global, IfSome, IsSomeAnd, Result, Ok, Err, refl, sym, ap, ◌∙◌, subst, arith}
+use Rattle.std.proofs.Common.{◌≡◌, ◌≢◌, ℕ, ◌⊎◌, inl, inr, List, [], append-nil, Option, Some, None, IfSome, IsSomeAnd, Result, Ok, Err, refl, sym, ap, ◌∙◌, subst}
 use Rattle.tn_text.specs.Counts.{Rose}
 use Rattle.tn_io.specs.FileLists.{Files, held}
 use Rattle.tn_io.specs.Outs.{Printed, told_then}
@@ -16,7 +16,7 @@ use Rattle.tn_top.specs.Outcomes.{Told, SameFiles, Holds, HoldsPart, without, Be
 use Rattle.tn_top.specs.Outcomes.{NothingFailed, FilesAfter, PrintedAfter}
 use Rattle.tn_top.specs.Refusals.{end_status, refused_line, end_line}
 use Rattle.tn_top.specs.ErrLines.{IsLine, IsAnswer}
-use Rattle.tn_top.specs.Inner.Ends.{Prints, Ends, wrote_all, showed_all, unable, wrote_part, wrote_for_want, showed_part, showed_for_want, not_enabled, WhyUnwritten, Puts, WhyUnprinted, Shows}
+use Rattle.tn_top.specs.Inner.Ends.{Prints, Ends, wrote_all, showed_all, unable, wrote_part, wrote_for_want, showed_part, showed_for_want, not_enabled, Puts, Shows}
 use Rattle.tn_top.proofs.Puts.{told-weaker, part-same}
 use Rattle.tn_top.proofs.PlanLaws.{goes-then, given-goes, found-goes, without-goes, missing-goes}
 use Rattle.tn_top.proofs.StageLaws.{unable-then}

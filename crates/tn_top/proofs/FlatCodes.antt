@@ -1,5 +1,5 @@
 -- The code in a flat source.
-use Rattle.std.proofs.Common.{◌≡◌, ℕ, ℤ, ◌<◌, ◌≤◌, List, length, Result, Ok, Err, refl, sym, ap, ◌∙◌}
+use Rattle.std.proofs.Common.{◌≡◌, ℕ, ℤ, ◌<◌, ◌≤◌, List, length, Ok, Err, refl, sym, ap, ◌∙◌}
 use Rattle.std.proofs.lemmas.Bool.{lt-ltb, le-ltb}
 use Rattle.tn_isa.specs.declared.functions.Fun.{Fun}
 use Rattle.tn_text.specs.declared.faults.Fault.{Fault}
@@ -7,7 +7,7 @@ use Rattle.tn_text.specs.declared.limits.Limit.TheVariants.{Code}
 use Rattle.tn_text.specs.declared.limits.TheConstants.{CODE_LIMIT}
 use Rattle.tn_asm.specs.FlatReading.{flat_read}
 use Rattle.tn_top.specs.FlatCode.{flat_code}
-use Rattle.tn_top.specs.Plans.{Answer, fault, limit}
+use Rattle.tn_top.specs.Plans.{fault, limit}
 use Rattle.tn_top.specs.Commands.{limited_code, code_given, code_in}
 
 -- a source that has a fault

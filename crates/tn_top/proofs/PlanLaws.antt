@@ -1,5 +1,5 @@
 -- Of plans.
-use Rattle.std.proofs.Common.{◌≡◌, ◌≢◌, ℕ, ◌+◌, ◌<◌, ◌≤◌, Bool, true, false, not, cond, List, [], ◌∷◌, length, Option, Some, None, IfSome, IsSomeAnd, Result, Ok, Err, refl, sym, ap, ◌∙◌, subst}
+use Rattle.std.proofs.Common.{◌≡◌, ◌≢◌, ℕ, ◌+◌, ◌<◌, Bool, true, false, not, cond, List, [], ◌∷◌, length, Option, Some, None, IsSomeAnd, Result, Err, refl, sym, ap, ◌∙◌, subst}
 use Rattle.std.proofs.lemmas.Bool.{lt-ltb, le-ltb, false≢true}
 use Rattle.std.proofs.lemmas.Slice.Eq.{bytes_eq-Decides}
 use Rattle.std.specs.Str.{bytes_eq}
@@ -7,7 +7,7 @@ use Rattle.tn_io.specs.FileLists.{Files, held}
 use Rattle.tn_io.proofs.FileListLaws.{bytes_eq-other}
 use Rattle.tn_text.specs.declared.limits.TheConstants.{FILE_LIMIT}
 use Rattle.tn_text.specs.declared.limits.Limit.TheVariants.{File}
-use Rattle.tn_top.specs.Plans.{Answer, unread, limit, Plan, gives, stops, reads, then_plan, found_in, found, either_answer, answer_of, Goes, stays, reads_on, too_long}
+use Rattle.tn_top.specs.Plans.{Answer, unread, limit, Plan, gives, stops, reads, then_plan, found_in, found, Goes, stays, reads_on, too_long}
 use Rattle.tn_top.specs.Outcomes.{without, AllGiven}
 
 -- from a place on

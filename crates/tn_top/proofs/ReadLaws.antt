@@ -1,13 +1,12 @@
 -- Of reading one file.
-use Rattle.std.proofs.Common.{◌≡◌, ℕ, ◌+◌, ◌<◌, ◌≤◌, ◌⊎◌, List, [], length, Option, Some, None, IfSome, IsSomeAnd, Result, Ok, Err, Vec, Global, refl, sym, ap, subst}
+use Rattle.std.proofs.Common.{◌≡◌, ℕ, ◌+◌, ◌<◌, ◌≤◌, ◌⊎◌, List, length, Option, Some, None, IfSome, IsSomeAnd, Ok, Err, Vec, Global}
 use Rattle.tn_text.specs.Counts.{Rose}
 use Rattle.tn_io.specs.FileLists.{Files, held}
 use Rattle.tn_io.specs.Stores.{Stored, told}
-use Rattle.tn_top.specs.declared.refusals.Refusal.{Refusal}
-use Rattle.tn_top.specs.declared.refusals.Refusal.TheVariants.{Unread, Limit, NoMemory}
+use Rattle.tn_top.specs.declared.refusals.Refusal.TheVariants.{Unread, Limit}
 use Rattle.tn_text.specs.declared.limits.TheConstants.{FILE_LIMIT}
 use Rattle.tn_text.specs.declared.limits.Limit.TheVariants.{File}
-use Rattle.tn_top.specs.Plans.{Plan, reads, gives, Goes, stays, reads_on, too_long}
+use Rattle.tn_top.specs.Plans.{reads, gives, stays, reads_on, too_long}
 use Rattle.tn_top.specs.Inner.Stages.{Unable, Staged}
 
 told_held : (files : Option Files) (name text : List ℕ) → IfSome (told files name) (λ f. f ≡ Some text) → IfSome files (λ fs. held fs name ≡ Some text)

@@ -1,5 +1,5 @@
 -- What `run` promises of a command that ended, by the plan that the words ask for.
-use Rattle.std.proofs.Common.{◌≡◌, ◌⊎◌, ℕ, List, Option, Some, None, IfSome, Result, refl, sym, subst}
+use Rattle.std.proofs.Common.{◌≡◌, ◌⊎◌, ℕ, List, Option, Some, None, IfSome, Result, sym, subst}
 use Rattle.tn_text.specs.Counts.{Rose}
 use Rattle.tn_text.specs.declared.faults.Fault.{Fault}
 use Rattle.tn_text.specs.declared.limits.Limit.{Limit}
@@ -45,7 +45,7 @@ module _ {T : Type 0} (asked : Option (Plan Answer)) (plan : Plan Answer) (is : 
       → IfSome before.files (λ fs. (file : List ℕ) (line : ℕ) (tokens text : List ℕ) → answer_to asked fs ≡ refused file line tokens text → Unless s status.NotEnabled)
   run_not_enabled =
       carried (λ a t. (Rose before.read_faults after.read_faults → ⊥) → (Rose old.faults new.faults → ⊥)
-        → IfSome before.files (λ fs. (file : List ℕ) (line : ℕ) (tokens text : List ℕ) → answer_to a fs ≡ refused file line tokens text → Unless t status.NotEnabled))
+      → IfSome before.files (λ fs. (file : List ℕ) (line : ℕ) (tokens text : List ℕ) → answer_to a fs ≡ refused file line tokens text → Unless t status.NotEnabled))
       (ends_not_enabled plan before after old new r ends)
 
   pub run_files : IfSome before.files (λ fs. Told before.files after.files (FilesAfter (answer_to asked fs) s))

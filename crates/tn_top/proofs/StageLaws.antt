@@ -1,7 +1,6 @@
 -- Of stages, one after the other.
-use Rattle.std.proofs.Common.{◌≡◌, ℕ, ◌<◌, ◌≤◌, ◌⊎◌, inl, inr, List, [], ◌∷◌, ◌++◌, Option, Some, None, Result, Ok, Err, IfOk, IfErr, refl, sym, ap, ◌∙◌, subst, arith}
+use Rattle.std.proofs.Common.{◌≡◌, ℕ, ◌≤◌, ◌⊎◌, inl, inr, List, [], ◌∷◌, ◌++◌, Some, None, Result, Ok, Err, IfOk, IfErr, refl, sym, ap, ◌∙◌, subst, arith}
 use Rattle.tn_text.specs.Counts.{Rose}
-use Rattle.tn_io.specs.FileLists.{Files}
 use Rattle.tn_io.specs.Stores.{Stored, told}
 use Rattle.tn_top.specs.declared.refusals.Refusal.{Refusal}
 use Rattle.tn_top.specs.declared.refusals.Refusal.TheVariants.{Fault, Limit, Unread, Unwritten, Unprinted, NotEnabled, NoMemory}
@@ -90,7 +89,7 @@ module _ {T A B : Type 0} (seen : T → A) (f : B → Plan A) (all rest : List B
   unfolding each_from then_plan
   walked-step x s = record {
     goes = goes-joined before.files (each f all) (each_from f so_far (b ∷ rest)) (each_from f (so_far ++ seen x ∷ []) rest) w.goes
-      (subst (λ files. Goes files (each_from f so_far (b ∷ rest)) (each_from f (so_far ++ seen x ∷ []) rest)) (ap (λ m. m.files) w.same) (goes-then now.files (λ y. each_from f (so_far ++ y ∷ []) rest) (f b) (gives (seen x)) s.ok));
+        (subst (λ files. Goes files (each_from f so_far (b ∷ rest)) (each_from f (so_far ++ seen x ∷ []) rest)) (ap (λ m. m.files) w.same) (goes-then now.files (λ y. each_from f (so_far ++ y ∷ []) rest) (f b) (gives (seen x)) s.ok));
     same = s.same ∙ ap {A = Stored} (λ m. record m { read_faults = after.read_faults }) w.same;
     count = omega (arith, w.count, s.count);
   }

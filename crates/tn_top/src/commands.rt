@@ -43,13 +43,13 @@ pub fn run<S: Store, O: Out>(
     ensures usage { asked (map string_bytes words.now) ≡ None → result ≡ Status.Usage }
     ensures fault { (Rose (S.stored store.old).read_faults (S.stored store.new).read_faults → ⊥)
         → IfSome (S.stored store.old).files (λ files. (file : List ℕ) (first : Fault)
-          → answer (map string_bytes words.now) files ≡ fault file first → (result ≡ Status.NoMemory) ⊎ (result ≡ Status.Fault)) }
+        → answer (map string_bytes words.now) files ≡ fault file first → (result ≡ Status.NoMemory) ⊎ (result ≡ Status.Fault)) }
     ensures limit { (Rose (S.stored store.old).read_faults (S.stored store.new).read_faults → ⊥)
         → IfSome (S.stored store.old).files (λ files. (which : Limit) (count : ℕ)
-          → answer (map string_bytes words.now) files ≡ limit which count → (result ≡ Status.NoMemory) ⊎ (result ≡ Status.Limit)) }
+        → answer (map string_bytes words.now) files ≡ limit which count → (result ≡ Status.NoMemory) ⊎ (result ≡ Status.Limit)) }
     ensures not_enabled { (Rose (S.stored store.old).read_faults (S.stored store.new).read_faults → ⊥) → (Rose (O.printed out.old).faults (O.printed out.new).faults → ⊥)
         → IfSome (S.stored store.old).files (λ files. (file : List ℕ) (line : ℕ) (tokens text : List ℕ)
-          → answer (map string_bytes words.now) files ≡ refused file line tokens text → (result ≡ Status.NoMemory) ⊎ (result ≡ Status.NotEnabled)) }
+        → answer (map string_bytes words.now) files ≡ refused file line tokens text → (result ≡ Status.NoMemory) ⊎ (result ≡ Status.NotEnabled)) }
 
     // What each name holds after the command, and that no file is open after `Done` of a command that
     // writes one.
@@ -72,7 +72,12 @@ pub fn run<S: Store, O: Out>(
 }
 
 /// Does what a command asks for.
-fn perform<S: Store, O: Out>(alloc: Global, command: Command, store: &mut S, out: &mut O) -> Result<(), Refusal>
+fn perform<S: Store, O: Out>(
+    alloc: Global,
+    command: Command,
+    store: &mut S,
+    out: &mut O,
+) -> Result<(), Refusal>
     requires { HasLink command }
     ensures ends { Ends (plan_of command) (S.stored store.old) (S.stored store.new) (O.printed out.old) (O.printed out.new) result }
     ensures goes_on { O.goes_on out.old out.new }
@@ -88,7 +93,12 @@ fn perform<S: Store, O: Out>(alloc: Global, command: Command, store: &mut S, out
 }
 
 /// Turns the flat source in one file into the code bytes in another.
-fn flat<S: Store>(alloc: Global, source: &FileName, target: &FileName, store: &mut S) -> Result<(), Refusal>
+fn flat<S: Store>(
+    alloc: Global,
+    source: &FileName,
+    target: &FileName,
+    store: &mut S,
+) -> Result<(), Refusal>
     ensures { (said : Printed) → Ends (then_plan (code_plan source.now) (written_from target.now (λ code. code))) (S.stored store.old) (S.stored store.new) said said result }
 {
     let code = read_code(alloc, source, store)?;

@@ -88,7 +88,12 @@ fn put_counted<P: Put>(word: &[u8], count: u64, out: &mut P) -> Result<(), PutRe
 
 /// Puts the line of a step that is not enabled.
 #[tactic(auto, unfolding(crate::specs::Refusals::not_enabled_line))]
-fn put_not_enabled<P: Put>(file: &FileName, line: u32, tokens: &[u8], out: &mut P) -> Result<(), PutRefused>
+fn put_not_enabled<P: Put>(
+    file: &FileName,
+    line: u32,
+    tokens: &[u8],
+    out: &mut P,
+) -> Result<(), PutRefused>
     ensures puts { Puts (not_enabled_line file.now line tokens.now) result (P.taken out.old) (P.taken out.new) }
     ensures goes_on { P.goes_on out.old out.new }
 {

@@ -13,7 +13,11 @@ use tn_text::{FileName, ReadFault};
 
 /// Reads a file whole.
 #[tactic(auto, unfolding(crate::specs::Inner::Stages::Unable))]
-pub fn read_file<S: Store>(alloc: Global, name: &FileName, store: &mut S) -> Result<Vec<u8>, Refusal>
+pub fn read_file<S: Store>(
+    alloc: Global,
+    name: &FileName,
+    store: &mut S,
+) -> Result<Vec<u8>, Refusal>
     ensures staged { Staged (λ text. text.items) (reads name.now gives) (S.stored store.old) (S.stored store.new) result }
     ensures short { IfOk result (λ text. vec_len text ≤ FILE_LIMIT) }
 {
@@ -27,7 +31,11 @@ pub fn read_file<S: Store>(alloc: Global, name: &FileName, store: &mut S) -> Res
 }
 
 /// The code bytes of the flat source in a file.
-pub fn read_code<S: Store>(alloc: Global, source: &FileName, store: &mut S) -> Result<Vec<u8>, Refusal>
+pub fn read_code<S: Store>(
+    alloc: Global,
+    source: &FileName,
+    store: &mut S,
+) -> Result<Vec<u8>, Refusal>
     ensures staged { Staged (λ code. code.items) (code_plan source.now) (S.stored store.old) (S.stored store.new) result }
     ensures within { IfOk result (λ code. vec_len code ≤ CODE_LIMIT) }
 {

@@ -7,7 +7,10 @@ use tn_text::FileName;
 #[derive(Drop)]
 pub enum Command {
     /// Turn the flat source in one file into the code bytes in another.
-    Flat { source: FileName, target: FileName },
+    Flat {
+        source: FileName,
+        target: FileName,
+    },
     /// Turn the flat source in one file into the stream, in another, that boots one processor by
     /// this link and runs the code.
     One {

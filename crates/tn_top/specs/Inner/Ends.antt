@@ -1,5 +1,5 @@
 -- How a command ended that follows a plan, and how its last step ended.
-use Rattle.std.specs.Prelude.{◌≡◌, ◌≤◌, ⊤, ℕ, List, [], ◌++◌, take, Option, Some, None, unwrap_or, Vec, Result, Ok, Err, IfErr, OnOk, OnErr, IsErrOf}
+use Rattle.std.specs.Prelude.{◌≡◌, ◌≤◌, ⊤, ℕ, List, [], ◌++◌, take, Some, None, unwrap_or, Vec, Result, Ok, Err, IfErr, OnOk, OnErr, IsErrOf}
 use Rattle.std.specs.declared.alloc.Global.{Global}
 use Rattle.tn_text.specs.Counts.{Rose}
 use Rattle.tn_io.specs.declared.faults.PutFault.{PutFault}
@@ -9,7 +9,7 @@ use Rattle.tn_io.specs.Outs.{Printed, told_then}
 use Rattle.tn_io.specs.Stores.{Stored}
 use Rattle.tn_top.specs.declared.refusals.Refusal.{Refusal}
 use Rattle.tn_top.specs.declared.refusals.Refusal.TheVariants as refusal
-use Rattle.tn_top.specs.Plans.{Answer, usage, unread, fault, limit, refused, done, Plan, gives, Goes}
+use Rattle.tn_top.specs.Plans.{Answer, refused, done, Plan, gives, Goes}
 use Rattle.tn_top.specs.Outcomes.{Told, SameOthers, Holds, HoldsPart, Begins}
 use Rattle.tn_top.specs.Inner.Stages.{Unable}
 
@@ -22,26 +22,26 @@ Prints text _ = ⊥
 -- How a command ended that follows a plan: a row for each end.
 pub data Ends {T : Type 0} (plan : Plan Answer) (before after : Stored) (old new : Printed) : Result T Refusal → Type 0 where
   wrote_all : (x : T) (file bytes : List ℕ)
-    → Goes before.files plan (gives (done (Some (file, bytes)) [])) → Told before.files after.files (Holds file bytes) → after.opened ≡ None
-    → new.bytes ≡ old.bytes → Ends plan before after old new (Ok x)
+      → Goes before.files plan (gives (done (Some (file, bytes)) [])) → Told before.files after.files (Holds file bytes) → after.opened ≡ None
+      → new.bytes ≡ old.bytes → Ends plan before after old new (Ok x)
   showed_all : (x : T) (text : List ℕ)
-    → Goes before.files plan (gives (done None text)) → after.files ≡ before.files
-    → new.bytes ≡ told_then text old.bytes → Ends plan before after old new (Ok x)
+      → Goes before.files plan (gives (done None text)) → after.files ≡ before.files
+      → new.bytes ≡ told_then text old.bytes → Ends plan before after old new (Ok x)
   unable : (why : Refusal) → Unable plan before after why → after.files ≡ before.files → new.bytes ≡ old.bytes → Ends plan before after old new (Err why)
   wrote_part : (file bytes : List ℕ)
-    → Goes before.files plan (gives (done (Some (file, bytes)) [])) → Told before.files after.files (HoldsPart file bytes)
-    → Rose before.write_faults after.write_faults → new.bytes ≡ old.bytes → Ends plan before after old new (Err (refusal.Unwritten file))
+      → Goes before.files plan (gives (done (Some (file, bytes)) [])) → Told before.files after.files (HoldsPart file bytes)
+      → Rose before.write_faults after.write_faults → new.bytes ≡ old.bytes → Ends plan before after old new (Err (refusal.Unwritten file))
   wrote_for_want : (file bytes : List ℕ)
-    → Goes before.files plan (gives (done (Some (file, bytes)) [])) → Told before.files after.files (HoldsPart file bytes)
-    → new.bytes ≡ old.bytes → Ends plan before after old new (Err refusal.NoMemory)
+      → Goes before.files plan (gives (done (Some (file, bytes)) [])) → Told before.files after.files (HoldsPart file bytes)
+      → new.bytes ≡ old.bytes → Ends plan before after old new (Err refusal.NoMemory)
   showed_part : (text : List ℕ) (answer : Answer) → Prints text answer
-    → Goes before.files plan (gives answer) → after.files ≡ before.files
-    → Rose old.faults new.faults → Begins text old new → Ends plan before after old new (Err refusal.Unprinted)
+      → Goes before.files plan (gives answer) → after.files ≡ before.files
+      → Rose old.faults new.faults → Begins text old new → Ends plan before after old new (Err refusal.Unprinted)
   showed_for_want : (text : List ℕ) (answer : Answer) → Prints text answer
-    → Goes before.files plan (gives answer) → after.files ≡ before.files → Begins text old new → Ends plan before after old new (Err refusal.NoMemory)
+      → Goes before.files plan (gives answer) → after.files ≡ before.files → Begins text old new → Ends plan before after old new (Err refusal.NoMemory)
   not_enabled : (file : List ℕ) (line : ℕ) (tokens : Vec ℕ Global) (text : List ℕ)
-    → Goes before.files plan (gives (refused file line tokens.items text)) → after.files ≡ before.files
-    → new.bytes ≡ told_then text old.bytes → Ends plan before after old new (Err (refusal.NotEnabled file line tokens))
+      → Goes before.files plan (gives (refused file line tokens.items text)) → after.files ≡ before.files
+      → new.bytes ≡ told_then text old.bytes → Ends plan before after old new (Err (refusal.NotEnabled file line tokens))
 
 -- why a file was not written
 abbrev pub WhyUnwritten : List ℕ → Stored → Stored → Refusal → Type 0

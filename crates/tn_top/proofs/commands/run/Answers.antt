@@ -1,4 +1,4 @@
-use Rattle.std.proofs.Common.{◌≡◌, ap, sym, Some, map, string_bytes, ◌∙◌}
+use Rattle.std.proofs.Common.{ap, sym, map, string_bytes}
 use Rattle.std.specs.Option.{option_map}
 use Rattle.tn_top.specs.Commands.{plan_of, plan_asked}
 use Rattle.tn_top.specs.Refusals.{end_line}
@@ -54,9 +54,10 @@ returns-clause-print g c =
     c.perform-ended.result c.perform-ended.ensures.ends c.status_of.result c.status_of.ensures
 
 pub returns-clause-err : goal.returns-clause-err
-returns-clause-err g c =
-    ( end_line c.perform-ended.result,
-    run_line (plan_asked (map string_bytes c.args.words.now)) (plan_of c.in-Some.command) (ap (option_map plan_of) (sym c.in-Some.ensures.asked))
-    (g.S.Store.stored c.args.store.now) (g.S.Store.stored c.perform-ended.new.store) (g.O.Out.printed c.args.out.now) (g.O.Out.printed c.perform-ended.new.out)
-    c.perform-ended.result c.perform-ended.ensures.ends c.status_of.result c.status_of.ensures,
-    c.tell_end.ensures.told )
+returns-clause-err g c = (
+  end_line c.perform-ended.result,
+  run_line (plan_asked (map string_bytes c.args.words.now)) (plan_of c.in-Some.command) (ap (option_map plan_of) (sym c.in-Some.ensures.asked))
+      (g.S.Store.stored c.args.store.now) (g.S.Store.stored c.perform-ended.new.store) (g.O.Out.printed c.args.out.now) (g.O.Out.printed c.perform-ended.new.out)
+      c.perform-ended.result c.perform-ended.ensures.ends c.status_of.result c.status_of.ensures,
+  c.tell_end.ensures.told,
+)

@@ -1,4 +1,4 @@
-use Rattle.std.proofs.Common.{◌≡◌, ◌∙◌, ℕ, List, map, ap, sym, Err, arith}
+use Rattle.std.proofs.Common.{◌≡◌, ◌∙◌, map, ap, sym, Err, arith}
 use Rattle.tn_text.specs.declared.limits.Limit.TheVariants.{Code}
 use Rattle.tn_asm.specs.Instructions.{instruction_of}
 use Rattle.tn_top.specs.FlatCode.{flat_code}

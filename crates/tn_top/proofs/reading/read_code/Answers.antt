@@ -1,4 +1,4 @@
-use Rattle.std.proofs.Common.{Vec, Global, List, ℕ, sym, subst}
+use Rattle.std.proofs.Common.{Vec, Global, List, ℕ, subst}
 use Rattle.tn_text.proofs.Results.{of-error}
 use Rattle.tn_top.specs.Plans.{reads, gives, at_once}
 use Rattle.tn_top.specs.Commands.{code_in, code_plan}

@@ -1,4 +1,4 @@
-use Rattle.std.proofs.Common.{Vec, Global, List, ℕ, Result, Ok, Err, sym, subst}
+use Rattle.std.proofs.Common.{Vec, Global, ℕ, Err, sym, subst}
 use Rattle.tn_top.specs.declared.refusals.Refusal.TheVariants.{Unread}
 use Rattle.tn_top.specs.Plans.{reads, gives}
 use Rattle.tn_top.specs.Inner.Stages.{Staged}
