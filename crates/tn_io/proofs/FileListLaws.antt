@@ -1,5 +1,6 @@
 -- Files after a change under a name.
-use Rattle.std.proofs.Common.{◌≡◌, ◌≢◌, ℕ, Bool, true, false, cond, List, [], ◌∷◌, ◌++◌, Option, Some, None, unwrap_or, IsSome, IfSome, refl, sym, ap, subst, ◌∙◌}
+use Rattle.std.proofs.Common.{◌≡◌, ◌≢◌, ℕ, Bool, true, false, cond, List, [], ◌∷◌, ◌++◌, Option, Some, None, unwrap_or, IsSome, IfSome}
+use Rattle.std.proofs.Common.{refl, sym, ap, subst, ◌∙◌}
 use Rattle.std.specs.Str.{bytes_eq}
 use Rattle.std.proofs.lemmas.Bool.{false≢true}
 use Rattle.std.proofs.lemmas.Slice.Eq.{bytes_eq-Decides}
@@ -23,17 +24,21 @@ unfolding held with_file
 held-with_file name bytes [] = rw bytes_eq-same refl
 held-with_file name bytes (file ∷ files) = at (bytes_eq file.0 name) refl (held-with_file name bytes files)
   where
-    at : (b : Bool) → bytes_eq file.0 name ≡ b → held (with_file name bytes files) name ≡ Some bytes → held (cond b ((name, bytes) ∷ files) (file ∷ with_file name bytes files)) name ≡ Some bytes
+    at : (b : Bool) → bytes_eq file.0 name ≡ b → held (with_file name bytes files) name ≡ Some bytes
+        → held (cond b ((name, bytes) ∷ files) (file ∷ with_file name bytes files)) name ≡ Some bytes
     at true e h = rw bytes_eq-same refl
     at false e h = rw e h
 
 -- other names hold what they held
-pub held-with_file-other : (name bytes other : List ℕ) (files : Files) → other ≢ name → held (with_file name bytes files) other ≡ held files other
+pub held-with_file-other : (name bytes other : List ℕ) (files : Files) → other ≢ name
+    → held (with_file name bytes files) other ≡ held files other
 unfolding held with_file
 held-with_file-other name bytes other [] n = rw (bytes_eq-other name other (λ e. n (sym e))) refl
 held-with_file-other name bytes other (file ∷ files) n = at (bytes_eq file.0 name) refl (held-with_file-other name bytes other files n)
   where
-    at : (b : Bool) → bytes_eq file.0 name ≡ b → held (with_file name bytes files) other ≡ held files other → held (cond b ((name, bytes) ∷ files) (file ∷ with_file name bytes files)) other ≡ cond (bytes_eq file.0 other) (Some file.1) (held files other)
+    at : (b : Bool) → bytes_eq file.0 name ≡ b → held (with_file name bytes files) other ≡ held files other
+        → held (cond b ((name, bytes) ∷ files) (file ∷ with_file name bytes files)) other
+        ≡ cond (bytes_eq file.0 other) (Some file.1) (held files other)
     at true e h =
         let same : file.0 ≡ name = (bytes_eq-Decides file.0 name).0 e in
         rw (bytes_eq-other name other (λ q. n (sym q)), bytes_eq-other file.0 other (λ q. n (sym q ∙ same))) refl
@@ -45,7 +50,8 @@ unfolding held with_file HasDistinctNames
 distinct-with_file name bytes [] d = (refl, tt)
 distinct-with_file name bytes (file ∷ files) d = at (bytes_eq file.0 name) refl (distinct-with_file name bytes files d.1)
   where
-    at : (b : Bool) → bytes_eq file.0 name ≡ b → HasDistinctNames (with_file name bytes files) → HasDistinctNames (cond b ((name, bytes) ∷ files) (file ∷ with_file name bytes files))
+    at : (b : Bool) → bytes_eq file.0 name ≡ b → HasDistinctNames (with_file name bytes files)
+        → HasDistinctNames (cond b ((name, bytes) ∷ files) (file ∷ with_file name bytes files))
     at true e h =
         let same : file.0 ≡ name = (bytes_eq-Decides file.0 name).0 e in
         (ap (held files) (sym same) ∙ d.0, d.1)
@@ -54,7 +60,8 @@ distinct-with_file name bytes (file ∷ files) d = at (bytes_eq file.0 name) ref
         (held-with_file-other name bytes file.0 files other ∙ d.0, h)
 
 -- what has a file keeps one
-pub is_some-held-with_file : (name bytes other : List ℕ) (files : Files) → IsSome (held files other) → IsSome (held (with_file name bytes files) other)
+pub is_some-held-with_file : (name bytes other : List ℕ) (files : Files) → IsSome (held files other)
+    → IsSome (held (with_file name bytes files) other)
 is_some-held-with_file name bytes other files h = at (bytes_eq other name) refl
   where
     at : (b : Bool) → bytes_eq other name ≡ b → IsSome (held (with_file name bytes files) other)
@@ -66,18 +73,24 @@ is_some-held-with_file name bytes other files h = at (bytes_eq other name) refl
         rw (held-with_file-other name bytes other files differs) h
 
 -- names stay distinct, and an open file stays held, after a change under a name
-pub kept-with_file : (opened : Option (List ℕ)) (name bytes : List ℕ) (files : Files) → HasDistinctNames files × IsHeld opened files → HasDistinctNames (with_file name bytes files) × IsHeld opened (with_file name bytes files)
+pub kept-with_file : (opened : Option (List ℕ)) (name bytes : List ℕ) (files : Files) → HasDistinctNames files × IsHeld opened files
+    → HasDistinctNames (with_file name bytes files) × IsHeld opened (with_file name bytes files)
 kept-with_file None name bytes files h = (distinct-with_file name bytes files h.0, tt)
 kept-with_file (Some other) name bytes files h =
     (distinct-with_file name bytes files h.0, is_some-held-with_file name bytes other files h.1)
 
-pub kept-with_more : (opened : Option (List ℕ)) (name more : List ℕ) (files new : Files) → HasDistinctNames files × IsHeld opened files → new ≡ with_more name more files → HasDistinctNames new × IsHeld opened new
+pub kept-with_more : (opened : Option (List ℕ)) (name more : List ℕ) (files new : Files) → HasDistinctNames files × IsHeld opened files
+    → new ≡ with_more name more files → HasDistinctNames new × IsHeld opened new
 unfolding with_more
 kept-with_more opened name more files new h e =
-    subst (λ fs. HasDistinctNames fs × IsHeld opened fs) (sym e) (kept-with_file opened name (unwrap_or (held files name) [] ++ more) files h)
+    subst (λ fs. HasDistinctNames fs × IsHeld opened fs) (sym e)
+    (kept-with_file opened name (unwrap_or (held files name) [] ++ more) files h)
 
 -- a file that was made is held
-pub held-made : (opened : Option (List ℕ)) (name bytes : List ℕ) (files new : Files) → HasDistinctNames files → new ≡ with_file name bytes files → IfSome opened (λ n. n ≡ name) → HasDistinctNames new × IsHeld opened new
+pub held-made : (opened : Option (List ℕ)) (name bytes : List ℕ) (files new : Files) → HasDistinctNames files
+    → new ≡ with_file name bytes files → IfSome opened (λ n. n ≡ name) → HasDistinctNames new × IsHeld opened new
 held-made None name bytes files new d e o = (subst HasDistinctNames (sym e) (distinct-with_file name bytes files d), tt)
-held-made (Some other) name bytes files new d e o =
-    (subst HasDistinctNames (sym e) (distinct-with_file name bytes files d), subst (λ n. IsSome (held new n)) (sym o) (rw (e, held-with_file) refl))
+held-made (Some other) name bytes files new d e o = (
+  subst HasDistinctNames (sym e) (distinct-with_file name bytes files d),
+  subst (λ n. IsSome (held new n)) (sym o) (rw (e, held-with_file) refl),
+)

@@ -1,5 +1,6 @@
 -- Files as contracts see them: names with bytes. A name stands for its first file.
-use Rattle.std.specs.Prelude.{◌≡◌, ⊤, ℕ, ◌<◌, length, slice_index_or, slice_set, IsSome, IfSome, List, [], ◌∷◌, ◌++◌, take, Option, Some, None, unwrap_or, if◌then◌else◌}
+use Rattle.std.specs.Prelude.{◌≡◌, ⊤, ℕ, ◌<◌, length, slice_index_or, slice_set, IsSome, IfSome, List, [], ◌∷◌, ◌++◌, take, Option, Some}
+use Rattle.std.specs.Prelude.{None, unwrap_or, if◌then◌else◌}
 use Rattle.std.specs.Str.{bytes_eq}
 
 abbrev pub Files : Type 0

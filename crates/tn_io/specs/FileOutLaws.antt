@@ -17,7 +17,9 @@ rose-second a b c h k (inl r) = inl (omega arith)
 rose-second a b c h k (inr r) = inr r
 
 -- a failure over two steps
-failed-joined : (first second third : Option PutKind) (a b c : ℕ) → a ≤ b → b ≤ c → (second ≡ Some Failed → (first ≡ Some Failed) ⊎ Rose a b) → (third ≡ Some Failed → (second ≡ Some Failed) ⊎ Rose b c) → third ≡ Some Failed → (first ≡ Some Failed) ⊎ Rose a c
+failed-joined : (first second third : Option PutKind) (a b c : ℕ) → a ≤ b → b ≤ c
+    → (second ≡ Some Failed → (first ≡ Some Failed) ⊎ Rose a b) → (third ≡ Some Failed → (second ≡ Some Failed) ⊎ Rose b c)
+    → third ≡ Some Failed → (first ≡ Some Failed) ⊎ Rose a c
 failed-joined first second third a b c h k one two is = by_two (two is)
   where
     by_one : (first ≡ Some Failed) ⊎ Rose a b → (first ≡ Some Failed) ⊎ Rose a c
@@ -29,7 +31,8 @@ failed-joined first second third a b c h k one two is = by_two (two is)
     by_two (inr r) = inr (rose-second a b c h k r)
 
 -- a kind over two steps, by the counts of refusals
-marked-joined : (second third : Option PutKind) (a b c : ℕ) → (IsSome second → IsSome third) → (a < b → IsSome second) → (b < c → IsSome third) → a < c → IsSome third
+marked-joined : (second third : Option PutKind) (a b c : ℕ) → (IsSome second → IsSome third) → (a < b → IsSome second)
+    → (b < c → IsSome third) → a < c → IsSome third
 marked-joined second third a b c keeps one two h = by_count (grind arith)
   where
     by_count : (a < b) ⊎ (b < c) → IsSome third
@@ -64,5 +67,6 @@ goes_on-joined first second third f g = λ is.
       count = omega (arith, one.count, two.count);
       kept = λ h. two.kept (one.kept h);
       marked = marked-joined second.kind third.kind first.refused second.refused third.refused two.kept one.marked two.marked;
-      failed = failed-joined first.kind second.kind third.kind first.stored.write_faults second.stored.write_faults third.stored.write_faults one.count two.count one.failed two.failed;
+      failed = failed-joined first.kind second.kind third.kind first.stored.write_faults second.stored.write_faults
+          third.stored.write_faults one.count two.count one.failed two.failed;
     }

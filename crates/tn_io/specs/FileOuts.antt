@@ -1,5 +1,6 @@
 -- Outputs over the open file of a store.
-use Rattle.std.specs.Prelude.{◌≡◌, ◌≢◌, ℕ, ◌+◌, ◌-◌, ◌^◌, ◌<◌, ◌≤◌, ◌⊎◌, List, [], Option, Some, None, option_map, unwrap_or, min, Result, Ok, Err, IsSome, IfSome, OnOk, OnErr}
+use Rattle.std.specs.Prelude.{◌≡◌, ◌≢◌, ℕ, ◌+◌, ◌-◌, ◌^◌, ◌<◌, ◌≤◌, ◌⊎◌, List, [], Option, Some, None, option_map, unwrap_or, min, Result}
+use Rattle.std.specs.Prelude.{Ok, Err, IsSome, IfSome, OnOk, OnErr}
 use Rattle.tn_io.specs.declared.faults.OutFault.{OutFault}
 use Rattle.tn_io.specs.declared.faults.PutFault.{PutFault}
 use Rattle.tn_io.specs.declared.faults.PutFault.TheVariants as put

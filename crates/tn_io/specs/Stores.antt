@@ -1,5 +1,6 @@
 -- What the calls of a store promise.
-use Rattle.std.specs.Prelude.{◌≡◌, ℕ, ◌+◌, ◌<◌, ◌≤◌, ◌⊎◌, List, [], length, take, Option, Some, None, option_map, Result, Ok, Err, IfSome, IsSomeAnd, OnOk, OnErr, IsErrOf}
+use Rattle.std.specs.Prelude.{◌≡◌, ℕ, ◌+◌, ◌<◌, ◌≤◌, ◌⊎◌, List, [], length, take, Option, Some, None, option_map, Result, Ok, Err, IfSome}
+use Rattle.std.specs.Prelude.{IsSomeAnd, OnOk, OnErr, IsErrOf}
 use Rattle.tn_io.specs.declared.faults.GetFault.{GetFault}
 use Rattle.tn_io.specs.declared.faults.GetFault.TheVariants as get
 use Rattle.tn_io.specs.declared.faults.PutFault.{PutFault}
@@ -43,15 +44,17 @@ pub record TellsEachOnce (before after : Stored) : Type 0 where
 abbrev pub Reads : {T : Type 0} → Option (Option (List ℕ)) → ℕ → ℕ → ℕ → Result T GetFault → List ℕ → Type 0
 Reads file limit before after (Ok _) bytes = (length bytes ≤ limit) × IfSome file (λ f. f ≡ Some bytes)
 Reads file limit before after (Err get.Failed) bytes = (bytes ≡ []) × (Rose before after ⊎ (file ≡ Some None))
-Reads file limit before after (Err (get.TooLong n)) bytes = (bytes ≡ []) × (n ≡ limit + 1) × IfSome file (λ f. IsSomeAnd f (λ bs. limit < length bs))
+Reads file limit before after (Err (get.TooLong n)) bytes = (bytes ≡ []) × (n ≡ limit + 1)
+    × IfSome file (λ f. IsSomeAnd f (λ bs. limit < length bs))
 Reads file limit before after (Err get.NoMemory) bytes = bytes ≡ []
 
-pub record Gets {T : Type 0} (name : List ℕ) (limit : ℕ) (result : Result T GetFault) (bytes : List ℕ) (before after : Stored) : Type 0 where
-  pub reads : Reads (told before.files name) limit before.read_faults after.read_faults result bytes
-  -- a name that isn't held is told so, and raises no count
-  pub missing : told before.files name ≡ Some None → IsErrOf result get.Failed × (after ≡ before)
-  pub same : after ≡ record before { read_faults = after.read_faults }
-  pub count : before.read_faults ≤ after.read_faults
+pub record Gets {T : Type 0} (name : List ℕ) (limit : ℕ) (result : Result T GetFault) (bytes : List ℕ) (before after : Stored) : Type 0
+  where
+    pub reads : Reads (told before.files name) limit before.read_faults after.read_faults result bytes
+    -- a name that isn't held is told so, and raises no count
+    pub missing : told before.files name ≡ Some None → IsErrOf result get.Failed × (after ≡ before)
+    pub same : after ≡ record before { read_faults = after.read_faults }
+    pub count : before.read_faults ≤ after.read_faults
 
 pub record Creates {T : Type 0} (name : List ℕ) (result : Result T PutFault) (before after : Stored) : Type 0 where
   pub ok : OnOk result ((after.files ≡ told_with name [] before.files) × (after.opened ≡ Some name))

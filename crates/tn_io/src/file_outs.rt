@@ -47,7 +47,8 @@ impl<'a, S: Store> Out for FileOut<'a, S> {
 
     ghost stays = { λ out. goes_on-itself (over_file S.stored out) };
 
-    ghost joined = { λ first second third. goes_on-joined (over_file S.stored first) (over_file S.stored second) (over_file S.stored third) };
+    ghost joined = { λ first second third.
+        goes_on-joined (over_file S.stored first) (over_file S.stored second) (over_file S.stored third) };
 
     fn write(&mut self, bytes: &[u8]) -> Result<(), OutFault>
         ensures prints { Prints bytes.now result (printed_to (over_file S.stored self.old)) (printed_to (over_file S.stored self.new)) }

@@ -1,4 +1,5 @@
-ghost use Rattle.std.specs.Prelude.{◌≡◌, ◌≤◌, ◌<◌, ◌-◌, ◌^◌, ◌⊎◌, ◌↔◌, [], length, None, IsSome, MatchOption, OnOk, OnErr, IsErrOf, position};
+ghost use Rattle.std.specs.Prelude.{◌≡◌, ◌≤◌, ◌<◌, ◌-◌, ◌^◌, ◌⊎◌, ◌↔◌, [], length};
+ghost use Rattle.std.specs.Prelude.{None, IsSome, MatchOption, OnOk, OnErr, IsErrOf, position};
 ghost use Rattle.std.specs.Str.{bytes_eq};
 ghost use Rattle.std.specs.Option.{option_copied};
 ghost use Rattle.tn_io.specs.FileLists.{held, with_file, with_more, IsPlace, HasNoPlace, HasDistinctNames};

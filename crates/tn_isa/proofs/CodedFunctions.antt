@@ -4,7 +4,8 @@ use Rattle.std.proofs.lemmas.Bool.{not-true}
 use Rattle.std.proofs.lemmas.List.Sums.{AllPass-from_list_all}
 use Rattle.std.proofs.lemmas.List.Elements.{All-contains}
 use Rattle.tn_isa.specs.declared.functions.Fun.{Fun}
-use Rattle.tn_isa.specs.declared.functions.Fun.TheVariants.{J, Ldlp, Pfix, Ldnl, Ldc, Ldnlp, Nfix, Ldl, Adc, Call, Cj, Ajw, Eqc, Stl, Stnl, Opr}
+use Rattle.tn_isa.specs.declared.functions.Fun.TheVariants.{J, Ldlp, Pfix, Ldnl, Ldc, Ldnlp, Nfix, Ldl, Adc, Call, Cj, Ajw, Eqc, Stl}
+use Rattle.tn_isa.specs.declared.functions.Fun.TheVariants.{Stnl, Opr}
 use Rattle.tn_isa.specs.declared.mnemonics.Mnemonic.{Mnemonic}
 use Rattle.tn_isa.specs.declared.mnemonics.Mnemonic.TheVariants.{Direct, Plain}
 use Rattle.tn_isa.specs.Mnemonics.{mnemonics}
@@ -38,7 +39,8 @@ is_coded_mnemonic (Plain op) = true
 pub IsCoded-mnemonic : (f : Fun) → Contains mnemonics (Direct f) → IsCoded f
 unfolding is_coded_mnemonic
 IsCoded-mnemonic f h =
-    not-true (is_prefix f) (All-contains (λ m. is_coded_mnemonic m ≡ true) mnemonics (Direct f) (AllPass-from_list_all is_coded_mnemonic mnemonics refl) h)
+    not-true (is_prefix f) (All-contains (λ m. is_coded_mnemonic m
+    ≡ true) mnemonics (Direct f) (AllPass-from_list_all is_coded_mnemonic mnemonics refl) h)
 
 -- what shows that a function is coded
 pub ruleset coded_functions = (IsCoded-mnemonic, IsCoded-other)

@@ -16,7 +16,8 @@ found-find {X} p (x ∷ xs) = at (p x) refl (found-find p xs)
     more None h = tt
     more (Some y) h = (Contains-cons x xs y h.0, h.1)
 
-    at : (b : Bool) → p x ≡ b → IfSome (find p xs) (λ y. Contains xs y × (p y ≡ true)) → IfSome (cond b (Some x) (find p xs)) (λ y. Contains (x ∷ xs) y × (p y ≡ true))
+    at : (b : Bool) → p x ≡ b → IfSome (find p xs) (λ y. Contains xs y × (p y ≡ true))
+        → IfSome (cond b (Some x) (find p xs)) (λ y. Contains (x ∷ xs) y × (p y ≡ true))
     at true e h = ((0, omega arith, refl), e)
     at false e h = more (find p xs) h
 
@@ -29,6 +30,7 @@ none-find {X} p (x ∷ xs) = at (p x) refl (none-find p xs)
     more None e h = All-cons (λ y. p y ≡ false) x xs e h
     more (Some y) e h = tt
 
-    at : (b : Bool) → p x ≡ b → IfNone (find p xs) (All (λ y. p y ≡ false) xs) → IfNone (cond b (Some x) (find p xs)) (All (λ y. p y ≡ false) (x ∷ xs))
+    at : (b : Bool) → p x ≡ b → IfNone (find p xs) (All (λ y. p y ≡ false) xs)
+        → IfNone (cond b (Some x) (find p xs)) (All (λ y. p y ≡ false) (x ∷ xs))
     at true e h = tt
     at false e h = more (find p xs) e h

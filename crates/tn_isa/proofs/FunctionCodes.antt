@@ -1,7 +1,8 @@
 -- The codes of functions.
 use Rattle.std.proofs.Common.{◌≡◌, ◌<◌, refl, arith}
 use Rattle.tn_isa.specs.declared.functions.Fun.{Fun}
-use Rattle.tn_isa.specs.declared.functions.Fun.TheVariants.{J, Ldlp, Pfix, Ldnl, Ldc, Ldnlp, Nfix, Ldl, Adc, Call, Cj, Ajw, Eqc, Stl, Stnl, Opr}
+use Rattle.tn_isa.specs.declared.functions.Fun.TheVariants.{J, Ldlp, Pfix, Ldnl, Ldc, Ldnlp, Nfix, Ldl, Adc, Call, Cj, Ajw, Eqc, Stl}
+use Rattle.tn_isa.specs.declared.functions.Fun.TheVariants.{Stnl, Opr}
 use Rattle.tn_isa.specs.Functions.{code_of, function_at}
 
 -- a code has four bits

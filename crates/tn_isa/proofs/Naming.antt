@@ -1,5 +1,6 @@
 -- Names of instructions name them.
-use Rattle.std.proofs.Common.{◌≡◌, ◌≢◌, ℕ, Bool, true, false, List, Option, Some, None, All, Contains, IfSome, IfNone, refl, sym, ap, ◌∙◌, arith}
+use Rattle.std.proofs.Common.{◌≡◌, ◌≢◌, ℕ, Bool, true, false, List, Option, Some, None, All, Contains, IfSome, IfNone, refl, sym, ap, ◌∙◌}
+use Rattle.std.proofs.Common.{arith}
 use Rattle.std.specs.Bool.{◌==◌}
 use Rattle.std.specs.List.{find, list_all}
 use Rattle.std.specs.Str.{bytes_eq}
@@ -23,7 +24,8 @@ unfolding mnemonic_named
 found-named word =
     named (find (λ m. bytes_eq (name_of m) word) mnemonics) (found-find (λ m. bytes_eq (name_of m) word) mnemonics)
   where
-    named : (o : Option Mnemonic) → IfSome o (λ m. Contains mnemonics m × (bytes_eq (name_of m) word ≡ true)) → IfSome o (λ m. Contains mnemonics m × (name_of m ≡ word))
+    named : (o : Option Mnemonic) → IfSome o (λ m. Contains mnemonics m × (bytes_eq (name_of m) word ≡ true))
+        → IfSome o (λ m. Contains mnemonics m × (name_of m ≡ word))
     named None h = tt
     named (Some m) h = (h.0, (bytes_eq-Decides (name_of m) word).0 h.1)
 
@@ -36,7 +38,8 @@ none-named word =
     other : (m : Mnemonic) → bytes_eq (name_of m) word ≡ false → name_of m ≢ word
     other m e s = let t : bytes_eq (name_of m) word ≡ true = (bytes_eq-Decides (name_of m) word).1 s in cc
 
-    named : (o : Option Mnemonic) → IfNone o (All (λ m. bytes_eq (name_of m) word ≡ false) mnemonics) → IfNone o (All (λ m. name_of m ≢ word) mnemonics)
+    named : (o : Option Mnemonic) → IfNone o (All (λ m. bytes_eq (name_of m) word ≡ false) mnemonics)
+        → IfNone o (All (λ m. name_of m ≢ word) mnemonics)
     named None h = All-weaker (λ m. bytes_eq (name_of m) word ≡ false) (λ m. name_of m ≢ word) other mnemonics h
     named (Some m) h = tt
 
@@ -75,7 +78,8 @@ all_read_back = refl
 pub mnemonic_named-name_of : (m : Mnemonic) → Contains mnemonics m → mnemonic_named (name_of m) ≡ Some m
 unfolding is_read_back is_this
 mnemonic_named-name_of m h =
-    this (mnemonic_named (name_of m)) (All-contains (λ n. is_read_back n ≡ true) mnemonics m (AllPass-from_list_all is_read_back mnemonics all_read_back) h)
+    this (mnemonic_named (name_of m)) (All-contains (λ n. is_read_back n
+    ≡ true) mnemonics m (AllPass-from_list_all is_read_back mnemonics all_read_back) h)
   where
     this : (o : Option Mnemonic) → is_this m o ≡ true → o ≡ Some m
     this None e = absurd cc

@@ -5,7 +5,10 @@ use Rattle.std.specs.List.{find}
 use Rattle.std.proofs.lemmas.Bool.Decides.{nat_tests}
 use Rattle.std.proofs.lemmas.List.Elements.{All-weaker}
 use Rattle.tn_isa.specs.declared.operations.Op.{Op}
-use Rattle.tn_isa.specs.declared.operations.Op.TheVariants.{Rev, Lb, Bsub, Endp, Diff, Add, Gcall, In, Prod, Gt, Wsub, Out, Sub, Startp, Seterr, Csub0, Stopp, Sthf, Ldpi, Stlf, Xdble, Rem, Ret, Lend, Ldtimer, Testerr, Div, Lmul, Not, Xor, Bcnt, Lsum, Runp, Sb, Gajw, Wcnt, Shr, Shl, Mint, And, Move, Or, Ldiff, Sum, Mul, Sttimer, Clrhalterr, Sethalterr, Dup}
+use Rattle.tn_isa.specs.declared.operations.Op.TheVariants.{Rev, Lb, Bsub, Endp, Diff, Add, Gcall, In, Prod, Gt, Wsub, Out, Sub, Startp}
+use Rattle.tn_isa.specs.declared.operations.Op.TheVariants.{Seterr, Csub0, Stopp, Sthf, Ldpi, Stlf, Xdble, Rem, Ret, Lend, Ldtimer}
+use Rattle.tn_isa.specs.declared.operations.Op.TheVariants.{Testerr, Div, Lmul, Not, Xor, Bcnt, Lsum, Runp, Sb, Gajw, Wcnt, Shr, Shl}
+use Rattle.tn_isa.specs.declared.operations.Op.TheVariants.{Mint, And, Move, Or, Ldiff, Sum, Mul, Sttimer, Clrhalterr, Sethalterr, Dup}
 use Rattle.tn_isa.specs.Operations.{operation_code, operations, operation_with}
 use Rattle.tn_isa.proofs.Finding.{found-find, none-find}
 
@@ -65,19 +68,24 @@ operation_with-operation_code Dup = refl
 -- a code that names an operation is its code
 pub found-operation_with : (code : ℕ) → IfSome (operation_with code) (λ op. operation_code op ≡ code)
 unfolding operation_with
-found-operation_with code = named (find (λ op. operation_code op == code) operations) (found-find (λ op. operation_code op == code) operations)
+found-operation_with code =
+    named (find (λ op. operation_code op == code) operations) (found-find (λ op. operation_code op == code) operations)
   where
-    named : (o : Option Op) → IfSome o (λ op. Contains operations op × ((operation_code op == code) ≡ true)) → IfSome o (λ op. operation_code op ≡ code)
+    named : (o : Option Op) → IfSome o (λ op. Contains operations op × ((operation_code op == code) ≡ true))
+        → IfSome o (λ op. operation_code op ≡ code)
     named None h = tt
     named (Some op) h = grind (arith, nat_tests)
 
 -- a code that names none is no operation's
 pub none-operation_with : (code : ℕ) → IfNone (operation_with code) (All (λ op. operation_code op ≢ code) operations)
 unfolding operation_with
-none-operation_with code = named (find (λ op. operation_code op == code) operations) (none-find (λ op. operation_code op == code) operations)
+none-operation_with code =
+    named (find (λ op. operation_code op == code) operations) (none-find (λ op. operation_code op == code) operations)
   where
-    named : (o : Option Op) → IfNone o (All (λ op. (operation_code op == code) ≡ false) operations) → IfNone o (All (λ op. operation_code op ≢ code) operations)
-    named None h = All-weaker (λ op. (operation_code op == code) ≡ false) (λ op. operation_code op ≢ code) (λ op e. grind (arith, nat_tests)) operations h
+    named : (o : Option Op) → IfNone o (All (λ op. (operation_code op == code) ≡ false) operations)
+        → IfNone o (All (λ op. operation_code op ≢ code) operations)
+    named None h = All-weaker (λ op. (operation_code op == code)
+        ≡ false) (λ op. operation_code op ≢ code) (λ op e. grind (arith, nat_tests)) operations h
     named (Some op) h = tt
 
 same_some : {X : Type 0} {x y : X} → Some x ≡ Some y → x ≡ y

@@ -1,7 +1,8 @@
 -- The functions of instruction bytes, and the codes that the guide's table gives them.
 use Rattle.std.specs.Prelude.{ℕ, List, [], ◌∷◌, slice_index_or}
 use Rattle.tn_isa.specs.declared.functions.Fun.{Fun}
-use Rattle.tn_isa.specs.declared.functions.Fun.TheVariants.{J, Ldlp, Pfix, Ldnl, Ldc, Ldnlp, Nfix, Ldl, Adc, Call, Cj, Ajw, Eqc, Stl, Stnl, Opr}
+use Rattle.tn_isa.specs.declared.functions.Fun.TheVariants.{J, Ldlp, Pfix, Ldnl, Ldc, Ldnlp, Nfix, Ldl, Adc, Call, Cj, Ajw, Eqc, Stl}
+use Rattle.tn_isa.specs.declared.functions.Fun.TheVariants.{Stnl, Opr}
 
 -- the function's code, which stands in the high four bits of an instruction byte
 abbrev pub code_of : Fun → ℕ

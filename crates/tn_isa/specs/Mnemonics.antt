@@ -2,9 +2,13 @@
 use Rattle.std.specs.Prelude.{ℕ, List, [], ◌∷◌, Option, find, codes}
 use Rattle.std.specs.Str.{bytes_eq}
 use Rattle.tn_isa.specs.declared.functions.Fun.{Fun}
-use Rattle.tn_isa.specs.declared.functions.Fun.TheVariants.{J, Ldlp, Pfix, Ldnl, Ldc, Ldnlp, Nfix, Ldl, Adc, Call, Cj, Ajw, Eqc, Stl, Stnl, Opr}
+use Rattle.tn_isa.specs.declared.functions.Fun.TheVariants.{J, Ldlp, Pfix, Ldnl, Ldc, Ldnlp, Nfix, Ldl, Adc, Call, Cj, Ajw, Eqc, Stl}
+use Rattle.tn_isa.specs.declared.functions.Fun.TheVariants.{Stnl, Opr}
 use Rattle.tn_isa.specs.declared.operations.Op.{Op}
-use Rattle.tn_isa.specs.declared.operations.Op.TheVariants.{Rev, Lb, Bsub, Endp, Diff, Add, Gcall, In, Prod, Gt, Wsub, Out, Sub, Startp, Seterr, Csub0, Stopp, Sthf, Ldpi, Stlf, Xdble, Rem, Ret, Lend, Ldtimer, Testerr, Div, Lmul, Not, Xor, Bcnt, Lsum, Runp, Sb, Gajw, Wcnt, Shr, Shl, Mint, And, Move, Or, Ldiff, Sum, Mul, Sttimer, Clrhalterr, Sethalterr, Dup}
+use Rattle.tn_isa.specs.declared.operations.Op.TheVariants.{Rev, Lb, Bsub, Endp, Diff, Add, Gcall, In, Prod, Gt, Wsub, Out, Sub, Startp}
+use Rattle.tn_isa.specs.declared.operations.Op.TheVariants.{Seterr, Csub0, Stopp, Sthf, Ldpi, Stlf, Xdble, Rem, Ret, Lend, Ldtimer}
+use Rattle.tn_isa.specs.declared.operations.Op.TheVariants.{Testerr, Div, Lmul, Not, Xor, Bcnt, Lsum, Runp, Sb, Gajw, Wcnt, Shr, Shl}
+use Rattle.tn_isa.specs.declared.operations.Op.TheVariants.{Mint, And, Move, Or, Ldiff, Sum, Mul, Sttimer, Clrhalterr, Sethalterr, Dup}
 use Rattle.tn_isa.specs.declared.mnemonics.Mnemonic.{Mnemonic}
 use Rattle.tn_isa.specs.declared.mnemonics.Mnemonic.TheVariants.{Direct, Plain}
 
@@ -86,7 +90,13 @@ name_of (Plain op) = operation_name op
 
 -- what a source may name: each function but pfix, nfix and opr, and each operation
 abbrev pub mnemonics : List Mnemonic
-mnemonics = Direct J ∷ Direct Ldlp ∷ Direct Ldnl ∷ Direct Ldc ∷ Direct Ldnlp ∷ Direct Ldl ∷ Direct Adc ∷ Direct Call ∷ Direct Cj ∷ Direct Ajw ∷ Direct Eqc ∷ Direct Stl ∷ Direct Stnl ∷ Plain Rev ∷ Plain Lb ∷ Plain Bsub ∷ Plain Endp ∷ Plain Diff ∷ Plain Add ∷ Plain Gcall ∷ Plain In ∷ Plain Prod ∷ Plain Gt ∷ Plain Wsub ∷ Plain Out ∷ Plain Sub ∷ Plain Startp ∷ Plain Seterr ∷ Plain Csub0 ∷ Plain Stopp ∷ Plain Sthf ∷ Plain Ldpi ∷ Plain Stlf ∷ Plain Xdble ∷ Plain Rem ∷ Plain Ret ∷ Plain Lend ∷ Plain Ldtimer ∷ Plain Testerr ∷ Plain Div ∷ Plain Lmul ∷ Plain Not ∷ Plain Xor ∷ Plain Bcnt ∷ Plain Lsum ∷ Plain Runp ∷ Plain Sb ∷ Plain Gajw ∷ Plain Wcnt ∷ Plain Shr ∷ Plain Shl ∷ Plain Mint ∷ Plain And ∷ Plain Move ∷ Plain Or ∷ Plain Ldiff ∷ Plain Sum ∷ Plain Mul ∷ Plain Sttimer ∷ Plain Clrhalterr ∷ Plain Sethalterr ∷ Plain Dup ∷ []
+mnemonics = Direct J ∷ Direct Ldlp ∷ Direct Ldnl ∷ Direct Ldc ∷ Direct Ldnlp ∷ Direct Ldl ∷ Direct Adc ∷ Direct Call ∷ Direct Cj
+    ∷ Direct Ajw ∷ Direct Eqc ∷ Direct Stl ∷ Direct Stnl ∷ Plain Rev ∷ Plain Lb ∷ Plain Bsub ∷ Plain Endp ∷ Plain Diff ∷ Plain Add
+    ∷ Plain Gcall ∷ Plain In ∷ Plain Prod ∷ Plain Gt ∷ Plain Wsub ∷ Plain Out ∷ Plain Sub ∷ Plain Startp ∷ Plain Seterr ∷ Plain Csub0
+    ∷ Plain Stopp ∷ Plain Sthf ∷ Plain Ldpi ∷ Plain Stlf ∷ Plain Xdble ∷ Plain Rem ∷ Plain Ret ∷ Plain Lend ∷ Plain Ldtimer
+    ∷ Plain Testerr ∷ Plain Div ∷ Plain Lmul ∷ Plain Not ∷ Plain Xor ∷ Plain Bcnt ∷ Plain Lsum ∷ Plain Runp ∷ Plain Sb ∷ Plain Gajw
+    ∷ Plain Wcnt ∷ Plain Shr ∷ Plain Shl ∷ Plain Mint ∷ Plain And ∷ Plain Move ∷ Plain Or ∷ Plain Ldiff ∷ Plain Sum ∷ Plain Mul
+    ∷ Plain Sttimer ∷ Plain Clrhalterr ∷ Plain Sethalterr ∷ Plain Dup ∷ []
 
 -- what a word names, if anything
 unfoldable pub mnemonic_named : List ℕ → Option Mnemonic

@@ -1,7 +1,10 @@
 -- The operations of the function opr, and the codes that the guide's table gives them.
 use Rattle.std.specs.Prelude.{ℕ, ◌==◌, List, [], ◌∷◌, Option, find}
 use Rattle.tn_isa.specs.declared.operations.Op.{Op}
-use Rattle.tn_isa.specs.declared.operations.Op.TheVariants.{Rev, Lb, Bsub, Endp, Diff, Add, Gcall, In, Prod, Gt, Wsub, Out, Sub, Startp, Seterr, Csub0, Stopp, Sthf, Ldpi, Stlf, Xdble, Rem, Ret, Lend, Ldtimer, Testerr, Div, Lmul, Not, Xor, Bcnt, Lsum, Runp, Sb, Gajw, Wcnt, Shr, Shl, Mint, And, Move, Or, Ldiff, Sum, Mul, Sttimer, Clrhalterr, Sethalterr, Dup}
+use Rattle.tn_isa.specs.declared.operations.Op.TheVariants.{Rev, Lb, Bsub, Endp, Diff, Add, Gcall, In, Prod, Gt, Wsub, Out, Sub, Startp}
+use Rattle.tn_isa.specs.declared.operations.Op.TheVariants.{Seterr, Csub0, Stopp, Sthf, Ldpi, Stlf, Xdble, Rem, Ret, Lend, Ldtimer}
+use Rattle.tn_isa.specs.declared.operations.Op.TheVariants.{Testerr, Div, Lmul, Not, Xor, Bcnt, Lsum, Runp, Sb, Gajw, Wcnt, Shr, Shl}
+use Rattle.tn_isa.specs.declared.operations.Op.TheVariants.{Mint, And, Move, Or, Ldiff, Sum, Mul, Sttimer, Clrhalterr, Sethalterr, Dup}
 
 -- the operation's code, which is the operand of its opr
 abbrev pub operation_code : Op → ℕ
@@ -57,7 +60,9 @@ operation_code Dup = 0x5A
 
 -- the operations in the order of their codes
 abbrev pub operations : List Op
-operations = Rev ∷ Lb ∷ Bsub ∷ Endp ∷ Diff ∷ Add ∷ Gcall ∷ In ∷ Prod ∷ Gt ∷ Wsub ∷ Out ∷ Sub ∷ Startp ∷ Seterr ∷ Csub0 ∷ Stopp ∷ Sthf ∷ Ldpi ∷ Stlf ∷ Xdble ∷ Rem ∷ Ret ∷ Lend ∷ Ldtimer ∷ Testerr ∷ Div ∷ Lmul ∷ Not ∷ Xor ∷ Bcnt ∷ Lsum ∷ Runp ∷ Sb ∷ Gajw ∷ Wcnt ∷ Shr ∷ Shl ∷ Mint ∷ And ∷ Move ∷ Or ∷ Ldiff ∷ Sum ∷ Mul ∷ Sttimer ∷ Clrhalterr ∷ Sethalterr ∷ Dup ∷ []
+operations = Rev ∷ Lb ∷ Bsub ∷ Endp ∷ Diff ∷ Add ∷ Gcall ∷ In ∷ Prod ∷ Gt ∷ Wsub ∷ Out ∷ Sub ∷ Startp ∷ Seterr ∷ Csub0 ∷ Stopp ∷ Sthf
+    ∷ Ldpi ∷ Stlf ∷ Xdble ∷ Rem ∷ Ret ∷ Lend ∷ Ldtimer ∷ Testerr ∷ Div ∷ Lmul ∷ Not ∷ Xor ∷ Bcnt ∷ Lsum ∷ Runp ∷ Sb ∷ Gajw ∷ Wcnt ∷ Shr
+    ∷ Shl ∷ Mint ∷ And ∷ Move ∷ Or ∷ Ldiff ∷ Sum ∷ Mul ∷ Sttimer ∷ Clrhalterr ∷ Sethalterr ∷ Dup ∷ []
 
 -- the operation with this code, if the table has one
 unfoldable pub operation_with : ℕ → Option Op

@@ -1,5 +1,6 @@
 -- Tables of instructions, and the bytes that they are assembled to.
-use Rattle.std.specs.Prelude.{◌≡◌, ◌==◌, ℕ, ◌+◌, ℤ, pos, ◌-ℤ◌, Bool, List, [], ◌∷◌, ◌++◌, length, find, Option, Some, None, map, All, IsTrue, true}
+use Rattle.std.specs.Prelude.{◌≡◌, ◌==◌, ℕ, ◌+◌, ℤ, pos, ◌-ℤ◌, Bool, List, [], ◌∷◌, ◌++◌, length, find, Option, Some, None, map, All}
+use Rattle.std.specs.Prelude.{IsTrue, true}
 use Rattle.std.specs.List.{flat_map, list_any}
 use Rattle.tn_isa.specs.declared.functions.Fun.{Fun}
 use Rattle.tn_isa.specs.declared.functions.Fun.TheVariants.{Opr}

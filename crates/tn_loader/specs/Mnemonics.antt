@@ -2,7 +2,8 @@
 -- operation does stands in one line, with A, B and C the registers and W the workspace pointer.
 use Rattle.std.specs.Prelude.{ℕ, pos}
 use Rattle.tn_isa.specs.declared.functions.Fun.TheVariants.{J, Ldlp, Ldc, Ldnlp, Ldl, Cj, Ajw, Eqc, Stl, Stnl}
-use Rattle.tn_isa.specs.declared.operations.Op.TheVariants.{Rev, Diff, Gcall, In, Gt, Out, Sthf, Stlf, Testerr, Gajw, Mint, Sttimer, Clrhalterr}
+use Rattle.tn_isa.specs.declared.operations.Op.TheVariants.{Rev, Diff, Gcall, In, Gt, Out, Sthf, Stlf, Testerr, Gajw, Mint, Sttimer}
+use Rattle.tn_isa.specs.declared.operations.Op.TheVariants.{Clrhalterr}
 use Rattle.tn_loader.specs.Instructions.{Instruction, direct, jump, operation}
 
 -- jump

@@ -1,7 +1,8 @@
 -- The primary bootstrap, which the T425 stores at MemStart as it comes by link k and then runs.
 use Rattle.std.specs.Prelude.{ℕ, ◌+◌, List, [], ◌∷◌}
 use Rattle.tn_loader.specs.Instructions.{Row, row}
-use Rattle.tn_loader.specs.Mnemonics.{ldlp, ldc, ldnlp, ldl, ajw, stl, stnl, gcall, input, sthf, stlf, testerr, gajw, mint, sttimer, clrhalterr}
+use Rattle.tn_loader.specs.Mnemonics.{ldlp, ldc, ldnlp, ldl, ajw, stl, stnl, gcall, input, sthf, stlf, testerr, gajw, mint, sttimer}
+use Rattle.tn_loader.specs.Mnemonics.{clrhalterr}
 
 -- the instructions for a boot by link k, whose input channel is 4 + k words above MostNeg
 unfoldable pub primary_table : ℕ → List Row

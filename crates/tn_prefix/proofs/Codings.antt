@@ -1,5 +1,6 @@
 -- The coding of an operand, byte by byte.
-use Rattle.std.proofs.Common.{◌≡◌, ℕ, zero, suc, ◌+◌, ◌*◌, ◌/◌, ◌%◌, ◌^◌, ◌<◌, ◌≤◌, ◌-◌, ℤ, pos, negsuc, if◌then◌else◌, true, false, cond, List, [], ◌∷◌, ◌++◌, All, length, nat_lt, refl, sym, ap, ◌∙◌, length-append, append_assoc, arith}
+use Rattle.std.proofs.Common.{◌≡◌, ℕ, zero, suc, ◌+◌, ◌*◌, ◌/◌, ◌%◌, ◌^◌, ◌<◌, ◌≤◌, ◌-◌, ℤ, pos, negsuc, if◌then◌else◌, true, false, cond}
+use Rattle.std.proofs.Common.{List, [], ◌∷◌, ◌++◌, All, length, nat_lt, refl, sym, ap, ◌∙◌, length-append, append_assoc, arith}
 use Rattle.std.proofs.Math.Nat.{pow-suc}
 use Rattle.tn_prefix.proofs.Cases.{by_lt}
 use Rattle.std.specs.Int.{w32}
@@ -24,7 +25,8 @@ coding_up_to-small zero f n h = refl
 coding_up_to-small (suc more) f n h = grind (arith, nat_tests)
 
 -- more bits need one
-pub coding_up_to-large : (more : ℕ) (f : Fun) (n : ℕ) → 16 ≤ n → coding_up_to (suc more) f n ≡ coding_up_to more Pfix (n / 16) ++ instruction f n ∷ []
+pub coding_up_to-large : (more : ℕ) (f : Fun) (n : ℕ) → 16 ≤ n → coding_up_to (suc more) f n ≡ coding_up_to more Pfix (n / 16)
+    ++ instruction f n ∷ []
 unfolding coding_up_to
 coding_up_to-large more f n h = grind (arith, nat_tests)
 
@@ -37,7 +39,8 @@ coding_up_to-more (suc more) f n h =
     by_lt n 16
     (λ small. coding_up_to-small (suc (suc more)) f n small ∙ sym (coding_up_to-small (suc more) f n small))
     (λ large. let less : n / 16 < 16 ^ suc more = omega (arith, pow-suc 16 (suc more)) in
-    coding_up_to-large (suc more) f n large ∙ (ap (λ bytes. bytes ++ instruction f n ∷ []) (coding_up_to-more more Pfix (n / 16) less) ∙ sym (coding_up_to-large more f n large)))
+    coding_up_to-large (suc more) f n large ∙ (ap (λ bytes. bytes ++ instruction f n ∷ []) (coding_up_to-more more Pfix (n / 16) less)
+    ∙ sym (coding_up_to-large more f n large)))
 
 -- the rule of coding for an operand of four bits
 pub coding-small : (f : Fun) (n : ℕ) → n < 16 → coding f (pos n) ≡ instruction f n ∷ []
@@ -45,7 +48,8 @@ unfolding coding
 coding-small f n h = coding_up_to-small 7 f n h
 
 -- the rule for an unsigned number of more bits
-pub unsigned_coding-large : (f : Fun) (n : ℕ) → 16 ≤ n → n < 2 ^ 32 → unsigned_coding f n ≡ unsigned_coding Pfix (n / 16) ++ instruction f n ∷ []
+pub unsigned_coding-large : (f : Fun) (n : ℕ) → 16 ≤ n → n < 2 ^ 32
+    → unsigned_coding f n ≡ unsigned_coding Pfix (n / 16) ++ instruction f n ∷ []
 unsigned_coding-large f n h below =
     let less : n / 16 < 16 ^ 7 = omega arith in
     coding_up_to-large 6 f n h ∙ ap (λ bytes. bytes ++ instruction f n ∷ []) (sym (coding_up_to-more 6 Pfix (n / 16) less))
@@ -70,19 +74,25 @@ pub unsigned_coding-small : (f : Fun) (n : ℕ) → n < 16 → unsigned_coding f
 unsigned_coding-small f n h = coding_up_to-small 7 f n h
 
 -- a larger one takes one more than what its prefix takes
-pub length-unsigned_coding-large : (f : Fun) (n : ℕ) → 16 ≤ n → n < 2 ^ 32 → length (unsigned_coding f n) ≡ length (unsigned_coding Pfix (n / 16)) + 1
-length-unsigned_coding-large f n h below = ap length (unsigned_coding-large f n h below) ∙ length-append (unsigned_coding Pfix (n / 16)) (instruction f n ∷ [])
+pub length-unsigned_coding-large : (f : Fun) (n : ℕ) → 16 ≤ n → n < 2 ^ 32
+    → length (unsigned_coding f n) ≡ length (unsigned_coding Pfix (n / 16)) + 1
+length-unsigned_coding-large f n h below = ap length (unsigned_coding-large f n h below)
+    ∙ length-append (unsigned_coding Pfix (n / 16)) (instruction f n ∷ [])
 
 -- a step of what appends a coding
 pub ruleset push_steps = (unsigned_coding-small, unsigned_coding-large, length-unsigned_coding-large, append_assoc, length-append)
 
 -- what holds of the bytes of pfix, and of those of f, holds of each byte of a coding
-pub All-coding_up_to : (P : ℕ → Type 0) → ((n : ℕ) → P (instruction Pfix n)) → (more : ℕ) (f : Fun) (n : ℕ) → ((m : ℕ) → P (instruction f m)) → All P (coding_up_to more f n)
-All-coding_up_to P prefix zero f n last = All-same P (coding_up_to 0 f n) (instruction f n ∷ []) (coding_up_to-zero f n) (All-cons P (instruction f n) [] (last n) (All-nil P))
+pub All-coding_up_to : (P : ℕ → Type 0) → ((n : ℕ) → P (instruction Pfix n)) → (more : ℕ) (f : Fun) (n : ℕ)
+    → ((m : ℕ) → P (instruction f m)) → All P (coding_up_to more f n)
+All-coding_up_to P prefix zero f n last =
+    All-same P (coding_up_to 0 f n) (instruction f n ∷ []) (coding_up_to-zero f n) (All-cons P (instruction f n) [] (last n) (All-nil P))
 All-coding_up_to P prefix (suc more) f n last =
     by_lt n 16
-    (λ small. All-same P (coding_up_to (suc more) f n) (instruction f n ∷ []) (coding_up_to-small (suc more) f n small) (All-cons P (instruction f n) [] (last n) (All-nil P)))
-    (λ large. All-same P (coding_up_to (suc more) f n) (coding_up_to more Pfix (n / 16) ++ instruction f n ∷ []) (coding_up_to-large more f n large)
+    (λ small. All-same P (coding_up_to (suc more) f n) (instruction f n
+    ∷ []) (coding_up_to-small (suc more) f n small) (All-cons P (instruction f n) [] (last n) (All-nil P)))
+    (λ large. All-same P (coding_up_to (suc more) f n) (coding_up_to more Pfix (n / 16) ++ instruction f n
+    ∷ []) (coding_up_to-large more f n large)
     (All-push P (coding_up_to more Pfix (n / 16)) (instruction f n) (All-coding_up_to P prefix more Pfix (n / 16) prefix) (last n)))
 
 -- the prefix bytes of an operand, which are the same for each function
@@ -118,5 +128,6 @@ coding-prefixes f (pos n) h =
     let same = ap (λ low. (code_of f * 16 + low) ∷ []) twice in
     by_lt n 16
     (λ small. rw (coding_prefixes-small n small) (coding-small f n small ∙ same))
-    (λ large. rw (coding_prefixes-large n large) (coding-large f n large (omega arith) ∙ (rw (coding-natural Pfix (n / 16)) (ap (λ bytes. unsigned_coding Pfix (n / 16) ++ bytes) same))))
+    (λ large. rw (coding_prefixes-large n large) (coding-large f n large (omega arith)
+    ∙ (rw (coding-natural Pfix (n / 16)) (ap (λ bytes. unsigned_coding Pfix (n / 16) ++ bytes) same))))
 coding-prefixes f (negsuc n) h = coding-negative f n ∙ rw (coding-natural Nfix (n / 16), coding_prefixes-negative n)

@@ -1,5 +1,6 @@
 -- How many bytes codings have.
-use Rattle.std.proofs.Common.{◌≡◌, ℕ, zero, suc, ◌+◌, ◌-◌, ◌*◌, ◌/◌, ◌%◌, ◌^◌, ◌<◌, ◌≤◌, ℤ, pos, negsuc, Bool, true, false, List, [], ◌∷◌, ◌++◌, length, nat_lt, if◌then◌else◌, find, unwrap_or, refl, sym, ap, ◌∙◌, arith, length-append, add-one}
+use Rattle.std.proofs.Common.{◌≡◌, ℕ, zero, suc, ◌+◌, ◌-◌, ◌*◌, ◌/◌, ◌%◌, ◌^◌, ◌<◌, ◌≤◌, ℤ, pos, negsuc, Bool, true, false, List, [], ◌∷◌}
+use Rattle.std.proofs.Common.{◌++◌, length, nat_lt, if◌then◌else◌, find, unwrap_or, refl, sym, ap, ◌∙◌, arith, length-append, add-one}
 use Rattle.std.specs.Int.{w32}
 use Rattle.std.specs.Int.RustNames.{FitsSigned}
 use Rattle.std.proofs.Math.Nat.{pow-suc}
@@ -130,7 +131,12 @@ below-length-coding_up_to : (more : ℕ) (f : Fun) (n : ℕ) → n < 16 ^ suc mo
 below-length-coding_up_to zero f n h = rw (coding_up_to-zero f n) h
 below-length-coding_up_to (suc more) f n h = by_lt n 16
     (λ small. rw (coding_up_to-small (suc more) f n small) (omega arith))
-    (λ large. rw (coding_up_to-large more f n large, length-append (coding_up_to more Pfix (n / 16)) (instruction f n ∷ []), add-one, pow-suc)
+    (λ large. rw (
+      coding_up_to-large more f n large,
+      length-append (coding_up_to more Pfix (n / 16)) (instruction f n ∷ []),
+      add-one,
+      pow-suc,
+    )
     (let rest = below-length-coding_up_to more Pfix (n / 16) (omega (arith, pow-suc 16 (suc more))) in omega arith))
 
 -- it has at least one
@@ -141,12 +147,14 @@ some-length-coding_up_to (suc more) f n = by_lt n 16
     (λ large. rw (coding_up_to-large more f n large, length-append (coding_up_to more Pfix (n / 16)) (instruction f n ∷ [])) (omega arith))
 
 -- the bytes of a prefix with n / 16 and one more are as many as n needs
-length_behind_prefix : (more : ℕ) (f : Fun) (n : ℕ) → n < 2 ^ 32 → n / 16 < 16 ^ suc more → length (coding_up_to more f (n / 16)) + 1 ≡ least_bytes n
+length_behind_prefix : (more : ℕ) (f : Fun) (n : ℕ) → n < 2 ^ 32 → n / 16 < 16 ^ suc more
+    → length (coding_up_to more f (n / 16)) + 1 ≡ least_bytes n
 length_behind_prefix more f n word h =
     let rest = coding_up_to more f (n / 16) in
     let some = some-length-coding_up_to more f (n / 16) in
     let reach = below-length-coding_up_to more f (n / 16) h in
-    let under : least_bytes n ≤ length rest + 1 = least_bytes-least n (length rest + 1) (omega arith) (rw (add-one, pow-suc) (omega arith)) in
+    let under : least_bytes n ≤ length rest + 1 =
+    least_bytes-least n (length rest + 1) (omega arith) (rw (add-one, pow-suc) (omega arith)) in
     let over : length rest + 1 ≤ least_bytes n = up_to (least_bytes n) (least_bytes-range n).0 (least_bytes-enough n word) in
     omega arith
   where
@@ -161,11 +169,22 @@ length-coding f (pos n) h =
     let fits : n < 2 ^ 31 = h.sfits in
     by_lt n 16
     (λ small. rw (coding-natural f n, coding_up_to-small 7 f n small, coding_length-small n small))
-    (λ large. rw (coding-natural f n, coding_up_to-large 6 f n large, length-append (coding_up_to 6 Pfix (n / 16)) (instruction f n ∷ []), coding_length-large n large)
+    (λ large. rw (
+      coding-natural f n,
+      coding_up_to-large 6 f n large,
+      length-append (coding_up_to 6 Pfix (n / 16)) (instruction f n ∷ []),
+      coding_length-large n large,
+    )
     (length_behind_prefix 6 Pfix n (omega arith) (omega arith)))
 length-coding f (negsuc n) h =
     let fits : n < 2 ^ 31 = h.sfits in
-    rw (coding-negative f n, coding-natural Nfix (n / 16), length-append (unsigned_coding Nfix (n / 16)) (instruction f (15 - n % 16) ∷ []), coding_length-negative n)
+    rw (
+      coding-negative f n,
+      coding-natural Nfix (n / 16),
+      length-append (unsigned_coding Nfix (n / 16)) (instruction f (15 - n % 16)
+          ∷ []),
+      coding_length-negative n,
+    )
     (length_behind_prefix 7 Nfix n (omega arith) (omega arith))
 
 -- an operand that needs a prefix takes as many bytes as its complement

@@ -1,5 +1,6 @@
 -- No bytes that load an operand are fewer than its coding.
-use Rattle.std.proofs.Common.{ℤ, pos, negsuc, add-one, ◌≡◌, ℕ, ◌+◌, ◌*◌, ◌/◌, ◌%◌, ◌^◌, ◌<◌, ◌≤◌, ⊎_elim, true, List, [], ◌∷◌, length, Option, Some, None, refl, sym, ap, ◌∙◌, arith}
+use Rattle.std.proofs.Common.{ℤ, pos, negsuc, add-one, ◌≡◌, ℕ, ◌+◌, ◌*◌, ◌/◌, ◌%◌, ◌^◌, ◌<◌, ◌≤◌, ⊎_elim, true, List, [], ◌∷◌, length}
+use Rattle.std.proofs.Common.{Option, Some, None, refl, sym, ap, ◌∙◌, arith}
 use Rattle.std.specs.Option.{option_map}
 use Rattle.std.specs.Int.{w32}
 use Rattle.std.specs.Int.RustNames.{FitsSigned}
@@ -23,7 +24,8 @@ pub record Reaches (p register : ℕ) : Type 0 where
   pub near : 16 * p ≤ register → 2 ^ 32 ≤ register + 16 * p
 
 -- one more prefix byte reaches sixteen times as far
-Reaches-shifted : (f : Fun) (p register low : ℕ) → is_prefix f ≡ true → low < 16 → 0 < p → Reaches p register → Reaches (16 * p) (shifted f ((register / 16) * 16 + low))
+Reaches-shifted : (f : Fun) (p register low : ℕ) → is_prefix f ≡ true → low < 16 → 0 < p → Reaches p register
+    → Reaches (16 * p) (shifted f ((register / 16) * 16 + low))
 Reaches-shifted Pfix p register low h small some r = record { is_word = omega arith; is_clear = omega arith; near = λ far. omega arith }
 Reaches-shifted Nfix p register low h small some r = record {
   is_word = omega arith;
@@ -33,7 +35,8 @@ Reaches-shifted Nfix p register low h small some r = record {
 Reaches-shifted f p register low h small some r = absurd (cc)
 
 -- what was found behind one byte was found with one byte less
-behind : (o : Option (Fun × ℕ × ℕ)) (f : Fun) (x n : ℕ) → option_map behind_one o ≡ Some (f, x, n) → (m : ℕ) × (o ≡ Some (f, x, m)) × (n ≡ m + 1)
+behind : (o : Option (Fun × ℕ × ℕ)) (f : Fun) (x n : ℕ) → option_map behind_one o ≡ Some (f, x, n)
+    → (m : ℕ) × (o ≡ Some (f, x, m)) × (n ≡ m + 1)
 behind None f x n h = absurd (cc)
 behind (Some (g, y, m)) f x n h =
     let same = same_some (g, y, m + 1) (f, x, n) h in
@@ -45,12 +48,15 @@ unfolding loads_from
 some-loads_from register [] f x n h = absurd (cc)
 some-loads_from register (byte ∷ rest) f x n h =
     ⊎_elim
-    (λ p. let b = behind (loads_from (operand_after register byte) rest) f x n (sym (loads_from-prefix register byte rest p) ∙ h) in omega (arith, b.2))
-    (λ q. let same = same_some (function_of byte, loaded register byte, 1) (f, x, n) (sym (loads_from-last register byte rest q) ∙ h) in omega (arith, ap (λ t. t.2) same))
+    (λ p. let b = behind (loads_from (operand_after register byte) rest) f x n (sym (loads_from-prefix register byte rest p) ∙ h) in
+    omega (arith, b.2))
+    (λ q. let same = same_some (function_of byte, loaded register byte, 1) (f, x, n) (sym (loads_from-last register byte rest q) ∙ h) in
+    omega (arith, ap (λ t. t.2) same))
     (cases_Bool (is_prefix (function_of byte)))
 
 -- bytes that read n more load an operand that lies from -p * 16 ^ n up to p * 16 ^ n
-near-loads_from : (p register : ℕ) (bytes : List ℕ) (f : Fun) (x n : ℕ) → 0 < p → Reaches p register → loads_from register bytes ≡ Some (f, x, n) → p * 16 ^ n ≤ x → 2 ^ 32 ≤ x + p * 16 ^ n
+near-loads_from : (p register : ℕ) (bytes : List ℕ) (f : Fun) (x n : ℕ) → 0 < p → Reaches p register
+    → loads_from register bytes ≡ Some (f, x, n) → p * 16 ^ n ≤ x → 2 ^ 32 ≤ x + p * 16 ^ n
 unfolding loads_from
 near-loads_from p register [] f x n some r h far = absurd (cc)
 near-loads_from p register (byte ∷ rest) f x n some r h far =
@@ -87,7 +93,8 @@ nibble-loads (byte ∷ rest) f x h =
     (cases_Bool (is_prefix (function_of byte)))
 
 -- no bytes that load an operand are fewer than its coding
-pub shortest-loads : (e : ℤ) (bytes : List ℕ) (f : Fun) (n : ℕ) → FitsSigned w32 e → loads bytes ≡ Some (f, word_of e, n) → coding_length e ≤ n
+pub shortest-loads : (e : ℤ) (bytes : List ℕ) (f : Fun) (n : ℕ) → FitsSigned w32 e → loads bytes ≡ Some (f, word_of e, n)
+    → coding_length e ≤ n
 shortest-loads (pos m) bytes f n h l =
     let fits : m < 2 ^ 31 = h.sfits in
     let some = some-loads_from 0 bytes f m n l in
@@ -105,8 +112,11 @@ shortest-loads (negsuc m) bytes f n h l =
     (by_lt n 2
     (λ one. absurd (omega (arith, nibble-loads bytes f (word_of (negsuc m)) (l ∙ ap (λ t. Some (f, word_of (negsuc m), t)) (omega arith)))))
     (λ two. two))
-    (lt-ltb m (16 ^ n) (by_lt m (16 ^ n) (λ near. near) (λ far. absurd (by_lt (word_of (negsuc m)) (16 ^ n) (λ close. omega arith) (λ away. omega (arith, near-loads bytes f (word_of (negsuc m)) n l away))))))
+    (lt-ltb m (16 ^ n) (by_lt m (16 ^ n) (λ near. near) (λ far. absurd
+    (by_lt (word_of (negsuc m)) (16 ^ n) (λ close. omega arith)
+    (λ away. omega (arith, near-loads bytes f (word_of (negsuc m)) n l away))))))
 
 -- the same where the bytes are all read
-pub shortest-LoadsAll : (e : ℤ) (bytes : List ℕ) (f : Fun) → FitsSigned w32 e → LoadsAll bytes f (word_of e) → coding_length e ≤ length bytes
+pub shortest-LoadsAll : (e : ℤ) (bytes : List ℕ) (f : Fun) → FitsSigned w32 e → LoadsAll bytes f (word_of e)
+    → coding_length e ≤ length bytes
 shortest-LoadsAll e bytes f h l = shortest-loads e bytes f (length bytes) h (ap loads (sym (append-nil bytes)) ∙ loads-LoadsAll l [])

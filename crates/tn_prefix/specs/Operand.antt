@@ -13,7 +13,9 @@ behind_one found = (found.0, found.1, found.2 + 1)
 -- sees, and how many bytes are read with it; None where no such byte comes
 unfoldable pub loads_from : ℕ → List ℕ → Option (Fun × ℕ × ℕ)
 loads_from register [] = None
-loads_from register (byte ∷ rest) = if is_prefix (function_of byte) then option_map behind_one (loads_from (operand_after register byte) rest) else Some (function_of byte, loaded register byte, 1)
+loads_from register (byte ∷ rest) =
+    if is_prefix (function_of byte) then option_map behind_one (loads_from (operand_after register byte) rest) else Some
+    (function_of byte, loaded register byte, 1)
 
 -- the same where the register is clear
 abbrev pub loads : List ℕ → Option (Fun × ℕ × ℕ)

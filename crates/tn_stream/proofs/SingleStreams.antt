@@ -16,14 +16,21 @@ unfolding wave wave_below
 wave-alone first last here = grind (arith, common_steps)
 
 -- the stream of one processor: its own load, the command that does nothing, and the command to start
-pub stream-alone : (site : Site) → stream (alone site) ≡ ((loader site.boot ++ loads_of site.image.segments) ++ nop_command) ++ run_command site.image.entry site.image.wptr
+pub stream-alone : (site : Site) → stream (alone site) ≡ ((loader site.boot ++ loads_of site.image.segments) ++ nop_command)
+    ++ run_command site.image.entry site.image.wptr
 unfolding stream wave wave_below
 stream-alone site = grind (arith, common_steps)
 
 -- the bytes of the loader
 pub length-loader : (k : ℕ) → length (loader k) ≡ 117
 length-loader k =
-    grind (arith, length-append (primary_bytes k ++ bytes_of_word 55) secondary_bytes, length-append (primary_bytes k) (bytes_of_word 55), length-primary_bytes k, length-secondary_bytes)
+    grind (
+      arith,
+      length-append (primary_bytes k ++ bytes_of_word 55) secondary_bytes,
+      length-append (primary_bytes k) (bytes_of_word 55),
+      length-primary_bytes k,
+      length-secondary_bytes,
+    )
 
 -- how many bytes the stream of one processor has
 pub length-stream_alone : (site : Site) → length (stream (alone site)) ≡ 141 + length (loads_of site.image.segments)
@@ -33,4 +40,12 @@ length-stream_alone site =
     let sizes = length-append (loader site.boot) (loads_of site.image.segments) in
     let and_nop = length-append own nop_command in
     let and_run = length-append (own ++ nop_command) run in
-    ap length (stream-alone site) ∙ omega (arith, sizes, and_nop, and_run, length-loader site.boot, length-command_bytes 3 0 0, length-command_bytes 2 site.image.entry site.image.wptr)
+    ap length (stream-alone site) ∙ omega (
+      arith,
+      sizes,
+      and_nop,
+      and_run,
+      length-loader site.boot,
+      length-command_bytes 3 0 0,
+      length-command_bytes 2 site.image.entry site.image.wptr,
+    )

@@ -38,7 +38,8 @@ unfolding stream wave wave_below primary_bytes secondary_bytes command_bytes
 length-stream_pair = refl
 
 -- of which the first FORWARD, behind the root's own load, sends the child's load of 133 bytes on link 1
-pub stream_pair_forwards : take 12 (drop 133 (stream pair)) ≡ 0x01 ∷ 0x00 ∷ 0x00 ∷ 0x00 ∷ 0x04 ∷ 0x00 ∷ 0x00 ∷ 0x80 ∷ 0x85 ∷ 0x00 ∷ 0x00 ∷ 0x00 ∷ []
+pub stream_pair_forwards : take 12 (drop 133 (stream pair)) ≡ 0x01 ∷ 0x00 ∷ 0x00 ∷ 0x00 ∷ 0x04 ∷ 0x00 ∷ 0x00 ∷ 0x80 ∷ 0x85 ∷ 0x00 ∷ 0x00
+    ∷ 0x00 ∷ []
 unfolding stream wave wave_below primary_bytes secondary_bytes command_bytes
 stream_pair_forwards = refl
 

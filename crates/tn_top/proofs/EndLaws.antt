@@ -1,5 +1,6 @@
 -- What follows of a command from how it ended.
-use Rattle.std.proofs.Common.{◌≡◌, ◌≢◌, ℕ, ◌⊎◌, inl, inr, List, [], append-nil, Option, Some, None, IfSome, IsSomeAnd, Result, Ok, Err, refl, sym, ap, ◌∙◌, subst}
+use Rattle.std.proofs.Common.{◌≡◌, ◌≢◌, ℕ, ◌⊎◌, inl, inr, List, [], append-nil, Option, Some, None, IfSome, IsSomeAnd, Result, Ok, Err}
+use Rattle.std.proofs.Common.{refl, sym, ap, ◌∙◌, subst}
 use Rattle.tn_text.specs.Counts.{Rose}
 use Rattle.tn_io.specs.FileLists.{Files, held}
 use Rattle.tn_io.specs.Outs.{Printed, told_then}
@@ -10,13 +11,16 @@ use Rattle.tn_top.specs.declared.refusals.Refusal.{Refusal}
 use Rattle.tn_top.specs.declared.refusals.Refusal.TheVariants as refusal
 use Rattle.tn_top.specs.declared.statuses.Status.{Status}
 use Rattle.tn_top.specs.declared.statuses.Status.TheVariants as status
-use Rattle.tn_top.specs.Plans.{Answer, usage, unread, fault, limit, refused, done, Plan, gives, stops, reads, then_plan, found, either_answer, answer_of, Goes}
+use Rattle.tn_top.specs.Plans.{Answer, usage, unread, fault, limit, refused, done, Plan, gives, stops, reads, then_plan, found}
+use Rattle.tn_top.specs.Plans.{either_answer, answer_of, Goes}
 use Rattle.tn_top.specs.Inner.Stages.{Unable, Staged}
-use Rattle.tn_top.specs.Outcomes.{Told, SameFiles, Holds, HoldsPart, without, Begins, printed_by, status_of, IsDone, IsPrinted, AllGiven, WritesTo, CannotRead, HasCause}
+use Rattle.tn_top.specs.Outcomes.{Told, SameFiles, Holds, HoldsPart, without, Begins, printed_by, status_of, IsDone, IsPrinted, AllGiven}
+use Rattle.tn_top.specs.Outcomes.{WritesTo, CannotRead, HasCause}
 use Rattle.tn_top.specs.Outcomes.{NothingFailed, FilesAfter, PrintedAfter}
 use Rattle.tn_top.specs.Refusals.{end_status, refused_line, end_line}
 use Rattle.tn_top.specs.ErrLines.{IsLine, IsAnswer}
-use Rattle.tn_top.specs.Inner.Ends.{Prints, Ends, wrote_all, showed_all, unable, wrote_part, wrote_for_want, showed_part, showed_for_want, not_enabled, Puts, Shows}
+use Rattle.tn_top.specs.Inner.Ends.{Prints, Ends, wrote_all, showed_all, unable, wrote_part, wrote_for_want, showed_part, showed_for_want}
+use Rattle.tn_top.specs.Inner.Ends.{not_enabled, Puts, Shows}
 use Rattle.tn_top.proofs.Puts.{told-weaker, part-same}
 use Rattle.tn_top.proofs.PlanLaws.{goes-then, given-goes, found-goes, without-goes, missing-goes}
 use Rattle.tn_top.proofs.StageLaws.{unable-then}
@@ -42,12 +46,14 @@ at_stop None plan a g = tt
 at_stop (Some fs) plan a g = ap either_answer (found-goes fs plan (stops a) g)
 
 -- or to a file that cannot be read
-without_it : (files : Option Files) (plan : Plan Answer) (file : List ℕ) (next : List ℕ → Plan Answer) → Goes files plan (reads file next) → IfSome files (λ fs. answer_of plan (without fs file) ≡ unread file)
+without_it : (files : Option Files) (plan : Plan Answer) (file : List ℕ) (next : List ℕ → Plan Answer) → Goes files plan (reads file next)
+    → IfSome files (λ fs. answer_of plan (without fs file) ≡ unread file)
 unfolding answer_of
 without_it None plan file next g = tt
 without_it (Some fs) plan file next g = ap either_answer (without-goes fs file next plan (reads file next) refl g)
 
-missing_it : (files : Option Files) (plan : Plan Answer) (file : List ℕ) (next : List ℕ → Plan Answer) → told files file ≡ Some None → Goes files plan (reads file next) → IsSomeAnd files (λ fs. answer_of plan fs ≡ unread file)
+missing_it : (files : Option Files) (plan : Plan Answer) (file : List ℕ) (next : List ℕ → Plan Answer) → told files file ≡ Some None
+    → Goes files plan (reads file next) → IsSomeAnd files (λ fs. answer_of plan fs ≡ unread file)
 unfolding answer_of
 missing_it None plan file next e g = absurd cc
 missing_it (Some fs) plan file next e g = let m : held fs file ≡ None = cc in ap either_answer (missing-goes fs file next plan m g)
@@ -103,14 +109,18 @@ kept (limit word count) s fs n m = λ name. refl
 kept (refused file line tokens text) s fs n m = λ name. refl
 
 module _ (plan : Plan Answer) (before after : Stored) (old new : Printed) where
-  cannot_read : (file : List ℕ) (next : List ℕ → Plan Answer) → Goes before.files plan (reads file next) → Rose before.read_faults after.read_faults ⊎ (told before.files file ≡ Some None) → CannotRead (answer_of plan) before after file
+  cannot_read : (file : List ℕ) (next : List ℕ → Plan Answer) → Goes before.files plan (reads file next)
+      → Rose before.read_faults after.read_faults ⊎ (told before.files file ≡ Some None) → CannotRead (answer_of plan) before after file
   cannot_read file next g (inl rose) = inr (rose, without_it before.files plan file next g)
   cannot_read file next g (inr e) = inl (missing_it before.files plan file next e g)
 
-  unable_cause : (T : Type 0) (why : Refusal) → Unable plan before after why → HasCause (Some plan) before after old new (end_status {T = T} (Err why))
+  unable_cause : (T : Type 0) (why : Refusal) → Unable plan before after why
+      → HasCause (Some plan) before after old new (end_status {T = T} (Err why))
   unfolding Unable
-  unable_cause T (refusal.Fault file first) u = more before.files (λ fs e. (file, first, e)) (at_stop before.files plan (fault file first) u)
-  unable_cause T (refusal.Limit word count) u = more before.files (λ fs e. (word, count, e)) (at_stop before.files plan (limit word count) u)
+  unable_cause T (refusal.Fault file first) u =
+      more before.files (λ fs e. (file, first, e)) (at_stop before.files plan (fault file first) u)
+  unable_cause T (refusal.Limit word count) u =
+      more before.files (λ fs e. (word, count, e)) (at_stop before.files plan (limit word count) u)
   unable_cause T (refusal.Unread file) u = (file, cannot_read file u.0 u.1 u.2)
   unable_cause T (refusal.Unwritten file) u = absurd u
   unable_cause T refusal.Unprinted u = absurd u
@@ -118,27 +128,37 @@ module _ (plan : Plan Answer) (before after : Stored) (old new : Printed) where
   unable_cause T refusal.NoMemory u = tt
 
   -- each status has its cause
-  pub ends_cause : {T : Type 0} (r : Result T Refusal) → Ends plan before after old new r → HasCause (Some plan) before after old new (end_status r)
-  ends_cause r (wrote_all x file bytes g t o p) = more before.files (λ fs e. subst IsDone (sym e) tt) (given before.files plan (done (Some (file, bytes)) []) g)
+  pub ends_cause : {T : Type 0} (r : Result T Refusal) → Ends plan before after old new r
+      → HasCause (Some plan) before after old new (end_status r)
+  ends_cause r (wrote_all x file bytes g t o p) =
+      more before.files (λ fs e. subst IsDone (sym e) tt) (given before.files plan (done (Some (file, bytes)) []) g)
   ends_cause r (showed_all x text g f p) = more before.files (λ fs e. subst IsDone (sym e) tt) (given before.files plan (done None text) g)
   ends_cause {T} r (unable why u f p) = unable_cause T why u
-  ends_cause r (wrote_part file bytes g t rose p) = (rose, more before.files (λ fs e. subst IsDone (sym e) tt) (given before.files plan (done (Some (file, bytes)) []) g))
+  ends_cause r (wrote_part file bytes g t rose p) =
+      (rose, more before.files (λ fs e. subst IsDone (sym e) tt) (given before.files plan (done (Some (file, bytes)) []) g))
   ends_cause r (wrote_for_want file bytes g t p) = tt
-  ends_cause r (showed_part text answer is g f rose b) = (rose, more before.files (λ fs e. subst IsPrinted (sym e) (printed_is text answer is)) (given before.files plan answer g))
+  ends_cause r (showed_part text answer is g f rose b) =
+      (rose, more before.files (λ fs e. subst IsPrinted (sym e) (printed_is text answer is)) (given before.files plan answer g))
   ends_cause r (showed_for_want text answer is g f b) = tt
-  ends_cause r (not_enabled file line tokens text g f p) = more before.files (λ fs e. (file, line, tokens.items, text, e)) (given before.files plan (refused file line tokens.items text) g)
+  ends_cause r (not_enabled file line tokens text g f p) =
+      more before.files (λ fs e. (file, line, tokens.items, text, e)) (given before.files plan (refused file line tokens.items text) g)
 
-  unable_says : (T : Type 0) (why : Refusal) → Unable plan before after why → (Rose before.read_faults after.read_faults → ⊥) → IfSome before.files (λ fs. Says (answer_of plan fs) before after old new (end_status {T = T} (Err why)))
+  unable_says : (T : Type 0) (why : Refusal) → Unable plan before after why → (Rose before.read_faults after.read_faults → ⊥)
+      → IfSome before.files (λ fs. Says (answer_of plan fs) before after old new (end_status {T = T} (Err why)))
   unfolding Unable
-  unable_says T (refusal.Fault file first) u calm = more before.files (λ fs e. same (ap status_of (sym e))) (at_stop before.files plan (fault file first) u)
-  unable_says T (refusal.Limit word count) u calm = more before.files (λ fs e. same (ap status_of (sym e))) (at_stop before.files plan (limit word count) u)
+  unable_says T (refusal.Fault file first) u calm =
+      more before.files (λ fs e. same (ap status_of (sym e))) (at_stop before.files plan (fault file first) u)
+  unable_says T (refusal.Limit word count) u calm =
+      more before.files (λ fs e. same (ap status_of (sym e))) (at_stop before.files plan (limit word count) u)
   unable_says T (refusal.Unread file) u calm = at u.2
     where
-      is_missing : (files : Option Files) → IsSomeAnd files (λ fs. answer_of plan fs ≡ unread file) → IfSome files (λ fs. Says (answer_of plan fs) before after old new status.ReadFault)
+      is_missing : (files : Option Files) → IsSomeAnd files (λ fs. answer_of plan fs ≡ unread file)
+          → IfSome files (λ fs. Says (answer_of plan fs) before after old new status.ReadFault)
       is_missing None m = tt
       is_missing (Some fs) m = same (ap status_of (sym m))
 
-      at : Rose before.read_faults after.read_faults ⊎ (told before.files file ≡ Some None) → IfSome before.files (λ fs. Says (answer_of plan fs) before after old new status.ReadFault)
+      at : Rose before.read_faults after.read_faults ⊎ (told before.files file ≡ Some None)
+          → IfSome before.files (λ fs. Says (answer_of plan fs) before after old new status.ReadFault)
       at (inl rose) = absurd (calm rose)
       at (inr e) = is_missing before.files (missing_it before.files plan file u.0 e u.1)
   unable_says T (refusal.Unwritten file) u calm = absurd u
@@ -146,59 +166,87 @@ module _ (plan : Plan Answer) (before after : Stored) (old new : Printed) where
   unable_says T (refusal.NotEnabled file line tokens) u calm = absurd u
   unable_says T refusal.NoMemory u calm = always before.files (λ fs. memory)
 
-  says : {T : Type 0} (r : Result T Refusal) → Ends plan before after old new r → (Rose before.read_faults after.read_faults → ⊥) → IfSome before.files (λ fs. Says (answer_of plan fs) before after old new (end_status r))
-  says r (wrote_all x file bytes g t o p) calm = more before.files (λ fs e. same (ap status_of (sym e))) (given before.files plan (done (Some (file, bytes)) []) g)
-  says r (showed_all x text g f p) calm = more before.files (λ fs e. same (ap status_of (sym e))) (given before.files plan (done None text) g)
+  says : {T : Type 0} (r : Result T Refusal) → Ends plan before after old new r → (Rose before.read_faults after.read_faults → ⊥)
+      → IfSome before.files (λ fs. Says (answer_of plan fs) before after old new (end_status r))
+  says r (wrote_all x file bytes g t o p) calm =
+      more before.files (λ fs e. same (ap status_of (sym e))) (given before.files plan (done (Some (file, bytes)) []) g)
+  says r (showed_all x text g f p) calm =
+      more before.files (λ fs e. same (ap status_of (sym e))) (given before.files plan (done None text) g)
   says {T} r (unable why u f p) calm = unable_says T why u calm
-  says r (wrote_part file bytes g t rose p) calm = more before.files (λ fs e. not_written rose (subst IsDone (sym e) tt)) (given before.files plan (done (Some (file, bytes)) []) g)
+  says r (wrote_part file bytes g t rose p) calm =
+      more before.files (λ fs e. not_written rose (subst IsDone (sym e) tt)) (given before.files plan (done (Some (file, bytes)) []) g)
   says r (wrote_for_want file bytes g t p) calm = always before.files (λ fs. memory)
-  says r (showed_part text answer is g f rose b) calm = more before.files (λ fs e. not_printed rose (subst IsPrinted (sym e) (printed_is text answer is))) (given before.files plan answer g)
+  says r (showed_part text answer is g f rose b) calm =
+      more before.files (λ fs e. not_printed rose (subst IsPrinted (sym e) (printed_is text answer is))) (given before.files plan answer g)
   says r (showed_for_want text answer is g f b) calm = always before.files (λ fs. memory)
-  says r (not_enabled file line tokens text g f p) calm = more before.files (λ fs e. same (ap status_of (sym e))) (given before.files plan (refused file line tokens.items text) g)
+  says r (not_enabled file line tokens text g f p) calm =
+      more before.files (λ fs e. same (ap status_of (sym e))) (given before.files plan (refused file line tokens.items text) g)
 
   -- where no call failed, the status is the answer's
-  status_said : (a : Answer) (s : Status) → NothingFailed before after old new → Says a before after old new s → (s ≡ status.NoMemory) ⊎ (s ≡ status_of a)
+  status_said : (a : Answer) (s : Status) → NothingFailed before after old new → Says a before after old new s
+      → (s ≡ status.NoMemory) ⊎ (s ≡ status_of a)
   status_said a s calm (same e) = inr e
   status_said a s calm (not_written rose d) = absurd (calm.writing rose)
   status_said a s calm (not_printed rose d) = absurd (calm.printing rose)
   status_said a s calm memory = inl refl
 
   -- an answer that neither writes nor prints has its status, where no read failed
-  refusal_said : (a : Answer) (s : Status) → (IsPrinted a → ⊥) → (IsDone a → ⊥) → Says a before after old new s → (s ≡ status.NoMemory) ⊎ (s ≡ status_of a)
+  refusal_said : (a : Answer) (s : Status) → (IsPrinted a → ⊥) → (IsDone a → ⊥) → Says a before after old new s
+      → (s ≡ status.NoMemory) ⊎ (s ≡ status_of a)
   refusal_said a s n m (same e) = inr e
   refusal_said a s n m (not_written rose d) = absurd (m d)
   refusal_said a s n m (not_printed rose d) = absurd (n d)
   refusal_said a s n m memory = inl refl
 
-  enabled_said : (a : Answer) (s : Status) → (IsDone a → ⊥) → (Rose old.faults new.faults → ⊥) → Says a before after old new s → (s ≡ status.NoMemory) ⊎ (s ≡ status_of a)
+  enabled_said : (a : Answer) (s : Status) → (IsDone a → ⊥) → (Rose old.faults new.faults → ⊥) → Says a before after old new s
+      → (s ≡ status.NoMemory) ⊎ (s ≡ status_of a)
   enabled_said a s m calm (same e) = inr e
   enabled_said a s m calm (not_written rose d) = absurd (m d)
   enabled_said a s m calm (not_printed rose d) = absurd (calm rose)
   enabled_said a s m calm memory = inl refl
 
-  pub ends_status : {T : Type 0} (r : Result T Refusal) → Ends plan before after old new r → NothingFailed before after old new → IfSome before.files (λ fs. (end_status r ≡ status.NoMemory) ⊎ (end_status r ≡ status_of (answer_of plan fs)))
+  pub ends_status : {T : Type 0} (r : Result T Refusal) → Ends plan before after old new r → NothingFailed before after old new
+      → IfSome before.files (λ fs. (end_status r ≡ status.NoMemory) ⊎ (end_status r ≡ status_of (answer_of plan fs)))
   ends_status r h calm = more before.files (λ fs s. status_said (answer_of plan fs) (end_status r) calm s) (says r h calm.reading)
 
-  pub ends_fault : {T : Type 0} (r : Result T Refusal) → Ends plan before after old new r → (Rose before.read_faults after.read_faults → ⊥) → IfSome before.files (λ fs. (file : List ℕ) (first : Fault) → answer_of plan fs ≡ fault file first → (end_status r ≡ status.NoMemory) ⊎ (end_status r ≡ status.Fault))
-  ends_fault r h calm = more before.files (λ fs s file first e. subst (λ a. (end_status r ≡ status.NoMemory) ⊎ (end_status r ≡ status_of a)) e (refusal_said (answer_of plan fs) (end_status r) (λ p. subst IsPrinted e p) (λ p. subst IsDone e p) s)) (says r h calm)
+  pub ends_fault : {T : Type 0} (r : Result T Refusal) → Ends plan before after old new r
+      → (Rose before.read_faults after.read_faults → ⊥) → IfSome before.files (λ fs. (file : List ℕ) (first : Fault)
+      → answer_of plan fs ≡ fault file first → (end_status r ≡ status.NoMemory) ⊎ (end_status r ≡ status.Fault))
+  ends_fault r h calm = more before.files (λ fs s file first e. subst (λ a. (end_status r ≡ status.NoMemory)
+      ⊎ (end_status r ≡ status_of a)) e (refusal_said (answer_of plan fs) (end_status r) (λ p. subst IsPrinted e p)
+      (λ p. subst IsDone e p) s)) (says r h calm)
 
-  pub ends_limit : {T : Type 0} (r : Result T Refusal) → Ends plan before after old new r → (Rose before.read_faults after.read_faults → ⊥) → IfSome before.files (λ fs. (word : Limit) (count : ℕ) → answer_of plan fs ≡ limit word count → (end_status r ≡ status.NoMemory) ⊎ (end_status r ≡ status.Limit))
-  ends_limit r h calm = more before.files (λ fs s word count e. subst (λ a. (end_status r ≡ status.NoMemory) ⊎ (end_status r ≡ status_of a)) e (refusal_said (answer_of plan fs) (end_status r) (λ p. subst IsPrinted e p) (λ p. subst IsDone e p) s)) (says r h calm)
+  pub ends_limit : {T : Type 0} (r : Result T Refusal) → Ends plan before after old new r
+      → (Rose before.read_faults after.read_faults → ⊥) → IfSome before.files (λ fs. (word : Limit) (count : ℕ)
+      → answer_of plan fs ≡ limit word count → (end_status r ≡ status.NoMemory) ⊎ (end_status r ≡ status.Limit))
+  ends_limit r h calm = more before.files (λ fs s word count e. subst (λ a. (end_status r ≡ status.NoMemory)
+      ⊎ (end_status r ≡ status_of a)) e (refusal_said (answer_of plan fs) (end_status r) (λ p. subst IsPrinted e p)
+      (λ p. subst IsDone e p) s)) (says r h calm)
 
-  pub ends_not_enabled : {T : Type 0} (r : Result T Refusal) → Ends plan before after old new r → (Rose before.read_faults after.read_faults → ⊥) → (Rose old.faults new.faults → ⊥) → IfSome before.files (λ fs. (file : List ℕ) (line : ℕ) (tokens text : List ℕ) → answer_of plan fs ≡ refused file line tokens text → (end_status r ≡ status.NoMemory) ⊎ (end_status r ≡ status.NotEnabled))
-  ends_not_enabled r h calm quiet = more before.files (λ fs s file line tokens text e. subst (λ a. (end_status r ≡ status.NoMemory) ⊎ (end_status r ≡ status_of a)) e (enabled_said (answer_of plan fs) (end_status r) (λ p. subst IsDone e p) quiet s)) (says r h calm)
+  pub ends_not_enabled : {T : Type 0} (r : Result T Refusal) → Ends plan before after old new r
+      → (Rose before.read_faults after.read_faults → ⊥) → (Rose old.faults new.faults → ⊥)
+      → IfSome before.files (λ fs. (file : List ℕ) (line : ℕ) (tokens text : List ℕ) → answer_of plan fs ≡ refused file line tokens text
+      → (end_status r ≡ status.NoMemory) ⊎ (end_status r ≡ status.NotEnabled))
+  ends_not_enabled r h calm quiet =
+      more before.files (λ fs s file line tokens text e. subst (λ a. (end_status r ≡ status.NoMemory)
+      ⊎ (end_status r ≡ status_of a)) e (enabled_said (answer_of plan fs) (end_status r) (λ p. subst IsDone e p) quiet s)) (says r h calm)
 
-  kept_told : (s : Status) → after.files ≡ before.files → s ≢ status.Done → s ≢ status.WriteFault → IfSome before.files (λ fs. Told before.files after.files (FilesAfter (answer_of plan fs) s))
+  kept_told : (s : Status) → after.files ≡ before.files → s ≢ status.Done → s ≢ status.WriteFault
+      → IfSome before.files (λ fs. Told before.files after.files (FilesAfter (answer_of plan fs) s))
   kept_told s e n m = at before.files after.files e
     where
       at : (one two : Option Files) → two ≡ one → IfSome one (λ fs. Told one two (FilesAfter (answer_of plan fs) s))
       at None two q = tt
       at (Some fs) two q = subst (λ f. Told (Some fs) f (FilesAfter (answer_of plan fs) s)) (sym q) (kept (answer_of plan fs) s fs n m)
 
-  put_told : (s : Status) (a : Answer) (P : Files → Files → Type 0) → ((fs gs : Files) → P fs gs → FilesAfter a s fs gs) → Told before.files after.files P → IfSome before.files (λ fs. answer_of plan fs ≡ a) → IfSome before.files (λ fs. Told before.files after.files (FilesAfter (answer_of plan fs) s))
-  put_told s a P f t = more before.files (λ fs e. subst (λ x. Told before.files after.files (FilesAfter x s)) (sym e) (told-weaker before.files after.files f t))
+  put_told : (s : Status) (a : Answer) (P : Files → Files → Type 0) → ((fs gs : Files) → P fs gs → FilesAfter a s fs gs)
+      → Told before.files after.files P → IfSome before.files (λ fs. answer_of plan fs ≡ a)
+      → IfSome before.files (λ fs. Told before.files after.files (FilesAfter (answer_of plan fs) s))
+  put_told s a P f t = more before.files (λ fs e. subst (λ x. Told before.files after.files (FilesAfter x s)) (sym e)
+      (told-weaker before.files after.files f t))
 
-  unable_files : (T : Type 0) (why : Refusal) → Unable plan before after why → after.files ≡ before.files → IfSome before.files (λ fs. Told before.files after.files (FilesAfter (answer_of plan fs) (end_status {T = T} (Err why))))
+  unable_files : (T : Type 0) (why : Refusal) → Unable plan before after why → after.files ≡ before.files
+      → IfSome before.files (λ fs. Told before.files after.files (FilesAfter (answer_of plan fs) (end_status {T = T} (Err why))))
   unfolding Unable
   unable_files T (refusal.Fault file first) u e = kept_told status.Fault e (λ q. cc) (λ q. cc)
   unable_files T (refusal.Limit word count) u e = kept_told status.Limit e (λ q. cc) (λ q. cc)
@@ -216,17 +264,26 @@ module _ (plan : Plan Answer) (before after : Stored) (old new : Printed) where
       at (Some fs) two q = subst (λ f. Told (Some fs) f SameFiles) (sym q) (λ name. refl)
 
   -- what each name holds
-  pub ends_files : {T : Type 0} (r : Result T Refusal) → Ends plan before after old new r → IfSome before.files (λ fs. Told before.files after.files (FilesAfter (answer_of plan fs) (end_status r)))
-  ends_files r (wrote_all x file bytes g t o p) = put_told status.Done (done (Some (file, bytes)) []) (Holds file bytes) (λ fs gs h. h) t (given before.files plan (done (Some (file, bytes)) []) g)
-  ends_files r (showed_all x text g e p) = put_told status.Done (done None text) SameFiles (λ fs gs h. h) (same_told e) (given before.files plan (done None text) g)
+  pub ends_files : {T : Type 0} (r : Result T Refusal) → Ends plan before after old new r
+      → IfSome before.files (λ fs. Told before.files after.files (FilesAfter (answer_of plan fs) (end_status r)))
+  ends_files r (wrote_all x file bytes g t o p) =
+      put_told status.Done (done (Some (file, bytes)) []) (Holds file bytes) (λ fs gs h. h) t
+      (given before.files plan (done (Some (file, bytes)) []) g)
+  ends_files r (showed_all x text g e p) =
+      put_told status.Done (done None text) SameFiles (λ fs gs h. h) (same_told e) (given before.files plan (done None text) g)
   ends_files {T} r (unable why u e p) = unable_files T why u e
-  ends_files r (wrote_part file bytes g t rose p) = put_told status.WriteFault (done (Some (file, bytes)) []) (HoldsPart file bytes) (λ fs gs h. h) t (given before.files plan (done (Some (file, bytes)) []) g)
-  ends_files r (wrote_for_want file bytes g t p) = put_told status.NoMemory (done (Some (file, bytes)) []) (HoldsPart file bytes) (λ fs gs h. h) t (given before.files plan (done (Some (file, bytes)) []) g)
+  ends_files r (wrote_part file bytes g t rose p) =
+      put_told status.WriteFault (done (Some (file, bytes)) []) (HoldsPart file bytes) (λ fs gs h. h) t
+      (given before.files plan (done (Some (file, bytes)) []) g)
+  ends_files r (wrote_for_want file bytes g t p) =
+      put_told status.NoMemory (done (Some (file, bytes)) []) (HoldsPart file bytes) (λ fs gs h. h) t
+      (given before.files plan (done (Some (file, bytes)) []) g)
   ends_files r (showed_part text answer is g e rose b) = kept_told status.OutFault e (λ q. cc) (λ q. cc)
   ends_files r (showed_for_want text answer is g e b) = kept_told status.NoMemory e (λ q. cc) (λ q. cc)
   ends_files r (not_enabled file line tokens text g e p) = kept_told status.NotEnabled e (λ q. cc) (λ q. cc)
 
-  unable_print : (T : Type 0) (why : Refusal) → Unable plan before after why → new.bytes ≡ old.bytes → IfSome before.files (λ fs. PrintedAfter (answer_of plan fs) (end_status {T = T} (Err why)) old new)
+  unable_print : (T : Type 0) (why : Refusal) → Unable plan before after why → new.bytes ≡ old.bytes
+      → IfSome before.files (λ fs. PrintedAfter (answer_of plan fs) (end_status {T = T} (Err why)) old new)
   unfolding Unable
   unable_print T (refusal.Fault file first) u p = always before.files (λ fs. p)
   unable_print T (refusal.Limit word count) u p = always before.files (λ fs. p)
@@ -236,19 +293,25 @@ module _ (plan : Plan Answer) (before after : Stored) (old new : Printed) where
   unable_print T (refusal.NotEnabled file line tokens) u p = absurd u
   unable_print T refusal.NoMemory u p = always before.files (λ fs. none_of_it (printed_by (answer_of plan fs)) old new p)
 
-  part_printed : (s : Status) (text : List ℕ) (answer : Answer) → Prints text answer → Begins text old new → IfSome before.files (λ fs. answer_of plan fs ≡ answer) → IfSome before.files (λ fs. Begins (printed_by (answer_of plan fs)) old new)
-  part_printed s text answer is b = more before.files (λ fs e. subst (λ t. Begins t old new) (text_is text answer is ∙ ap printed_by (sym e)) b)
+  part_printed : (s : Status) (text : List ℕ) (answer : Answer) → Prints text answer → Begins text old new
+      → IfSome before.files (λ fs. answer_of plan fs ≡ answer) → IfSome before.files (λ fs. Begins (printed_by (answer_of plan fs)) old new)
+  part_printed s text answer is b =
+      more before.files (λ fs e. subst (λ t. Begins t old new) (text_is text answer is ∙ ap printed_by (sym e)) b)
 
   -- what was printed
-  pub ends_print : {T : Type 0} (r : Result T Refusal) → Ends plan before after old new r → IfSome before.files (λ fs. PrintedAfter (answer_of plan fs) (end_status r) old new)
-  ends_print r (wrote_all x file bytes g t o p) = more before.files (λ fs e. p ∙ sym (nothing old.bytes) ∙ ap (λ a. told_then (printed_by a) old.bytes) (sym e)) (given before.files plan (done (Some (file, bytes)) []) g)
-  ends_print r (showed_all x text g f p) = more before.files (λ fs e. p ∙ ap (λ a. told_then (printed_by a) old.bytes) (sym e)) (given before.files plan (done None text) g)
+  pub ends_print : {T : Type 0} (r : Result T Refusal) → Ends plan before after old new r
+      → IfSome before.files (λ fs. PrintedAfter (answer_of plan fs) (end_status r) old new)
+  ends_print r (wrote_all x file bytes g t o p) = more before.files (λ fs e. p ∙ sym (nothing old.bytes)
+      ∙ ap (λ a. told_then (printed_by a) old.bytes) (sym e)) (given before.files plan (done (Some (file, bytes)) []) g)
+  ends_print r (showed_all x text g f p) = more before.files (λ fs e. p
+      ∙ ap (λ a. told_then (printed_by a) old.bytes) (sym e)) (given before.files plan (done None text) g)
   ends_print {T} r (unable why u f p) = unable_print T why u p
   ends_print r (wrote_part file bytes g t rose p) = always before.files (λ fs. p)
   ends_print r (wrote_for_want file bytes g t p) = always before.files (λ fs. none_of_it (printed_by (answer_of plan fs)) old new p)
   ends_print r (showed_part text answer is g f rose b) = part_printed status.OutFault text answer is b (given before.files plan answer g)
   ends_print r (showed_for_want text answer is g f b) = part_printed status.NoMemory text answer is b (given before.files plan answer g)
-  ends_print r (not_enabled file line tokens text g f p) = more before.files (λ fs e. p ∙ ap (λ a. told_then (printed_by a) old.bytes) (sym e)) (given before.files plan (refused file line tokens.items text) g)
+  ends_print r (not_enabled file line tokens text g f p) = more before.files (λ fs e. p
+      ∙ ap (λ a. told_then (printed_by a) old.bytes) (sym e)) (given before.files plan (refused file line tokens.items text) g)
 
   at_given : (a : Answer) → Goes before.files plan (gives a) → IsAnswer (Some plan) before.files a
   at_given a g = record { told = given before.files plan a g; possible = inl g }
@@ -256,7 +319,8 @@ module _ (plan : Plan Answer) (before after : Stored) (old new : Printed) where
   at_stopped : (a : Answer) → Goes before.files plan (stops a) → IsAnswer (Some plan) before.files a
   at_stopped a g = record { told = at_stop before.files plan a g; possible = inr g }
 
-  unable_line : (T : Type 0) (why : Refusal) → Unable plan before after why → IsLine (Some plan) before after (end_status {T = T} (Err why)) (end_line {T = T} (Err why))
+  unable_line : (T : Type 0) (why : Refusal) → Unable plan before after why
+      → IsLine (Some plan) before after (end_status {T = T} (Err why)) (end_line {T = T} (Err why))
   unfolding Unable refused_line
   unable_line T (refusal.Fault file first) u = (file, first, refl, at_stopped (fault file first) u)
   unable_line T (refusal.Limit which count) u = (which, count, refl, at_stopped (limit which count) u)
@@ -267,7 +331,8 @@ module _ (plan : Plan Answer) (before after : Stored) (old new : Printed) where
   unable_line T refusal.NoMemory u = refl
 
   -- what is told
-  pub ends_line : {T : Type 0} (r : Result T Refusal) → Ends plan before after old new r → IsLine (Some plan) before after (end_status r) (end_line r)
+  pub ends_line : {T : Type 0} (r : Result T Refusal) → Ends plan before after old new r
+      → IsLine (Some plan) before after (end_status r) (end_line r)
   unfolding refused_line
   ends_line r (wrote_all x file bytes g t o p) = refl
   ends_line r (showed_all x text g f p) = refl
@@ -276,13 +341,16 @@ module _ (plan : Plan Answer) (before after : Stored) (old new : Printed) where
   ends_line r (wrote_for_want file bytes g t p) = refl
   ends_line r (showed_part text answer is g f rose b) = refl
   ends_line r (showed_for_want text answer is g f b) = refl
-  ends_line r (not_enabled file line tokens text g f p) = (file, line, tokens.items, text, refl, at_given (refused file line tokens.items text) g)
+  ends_line r (not_enabled file line tokens text g f p) =
+      (file, line, tokens.items, text, refl, at_given (refused file line tokens.items text) g)
 
   -- where every answer writes a file, no file is open after Done
-  pub ends_closed : {T : Type 0} (target : List ℕ) (r : Result T Refusal) → AllGiven (WritesTo target) plan → Ends plan before after old new r → end_status r ≡ status.Done → after.opened ≡ None
+  pub ends_closed : {T : Type 0} (target : List ℕ) (r : Result T Refusal) → AllGiven (WritesTo target) plan
+      → Ends plan before after old new r → end_status r ≡ status.Done → after.opened ≡ None
   unfolding AllGiven Unable
   ends_closed target r all (wrote_all x file bytes g t o p) e = o
-  ends_closed target r all (showed_all x text g f p) e = absurd (given-goes before.files (WritesTo target) plan (gives (done None text)) g all)
+  ends_closed target r all (showed_all x text g f p) e =
+      absurd (given-goes before.files (WritesTo target) plan (gives (done None text)) g all)
   ends_closed target r all (unable (refusal.Fault file first) u f p) e = absurd cc
   ends_closed target r all (unable (refusal.Limit word count) u f p) e = absurd cc
   ends_closed target r all (unable (refusal.Unread file) u f p) e = absurd cc
@@ -297,11 +365,13 @@ module _ (plan : Plan Answer) (before after : Stored) (old new : Printed) where
   ends_closed target r all (not_enabled file line tokens text g f p) e = absurd cc
 
 -- a command whose stages gave nothing
-pub ends_stopped : {T U A : Type 0} (seen : T → A) (k : A → Plan Answer) (p : Plan A) (before after : Stored) (shown : Printed) (why : Refusal) → Staged seen p before after (Err why) → Ends {T = U} (then_plan p k) before after shown shown (Err why)
+pub ends_stopped : {T U A : Type 0} (seen : T → A) (k : A → Plan Answer) (p : Plan A) (before after : Stored) (shown : Printed)
+    (why : Refusal) → Staged seen p before after (Err why) → Ends {T = U} (then_plan p k) before after shown shown (Err why)
 ends_stopped seen k p before after shown why s = unable why (unable-then k p before after why s.err) (ap (λ m. m.files) s.same) refl
 
 -- a command whose stages gave a value, and what follows
-module _ {T A : Type 0} (seen : T → A) (k : A → Plan Answer) (p : Plan A) (before mid after : Stored) (old new : Printed) (x : T) (s : Staged seen p before mid (Ok x)) where
+module _ {T A : Type 0} (seen : T → A) (k : A → Plan Answer) (p : Plan A) (before mid after : Stored) (old new : Printed) (x : T)
+    (s : Staged seen p before mid (Ok x)) where
   same_files : mid.files ≡ before.files
   same_files = ap (λ m. m.files) s.same
 
@@ -316,11 +386,16 @@ module _ {T A : Type 0} (seen : T → A) (k : A → Plan Answer) (p : Plan A) (b
   from_start h = subst (λ n. Rose n after.write_faults) (ap (λ m. m.write_faults) s.same) h
 
   -- it wrote a file
-  pub ends_written : {U : Type 0} (file bytes : List ℕ) (r : Result U Refusal) → k (seen x) ≡ gives (done (Some (file, bytes)) []) → Puts file bytes mid after r → Ends (then_plan p k) before after old old r
-  ends_written {U} file bytes (Ok y) e h = wrote_all y file bytes (there (done (Some (file, bytes)) []) e) (from_before (Holds file bytes) h.ok.0) h.ok.1 refl
+  pub ends_written : {U : Type 0} (file bytes : List ℕ) (r : Result U Refusal) → k (seen x) ≡ gives (done (Some (file, bytes)) [])
+      → Puts file bytes mid after r → Ends (then_plan p k) before after old old r
+  ends_written {U} file bytes (Ok y) e h =
+      wrote_all y file bytes (there (done (Some (file, bytes)) []) e) (from_before (Holds file bytes) h.ok.0) h.ok.1 refl
   ends_written {U} file bytes (Err (refusal.Unwritten name)) e h =
-      subst (λ n. Ends {T = U} (then_plan p k) before after old old (Err (refusal.Unwritten n))) (sym h.err.1.0) (wrote_part file bytes (there (done (Some (file, bytes)) []) e) (from_before (HoldsPart file bytes) h.err.0) (from_start h.err.1.1) refl)
-  ends_written file bytes (Err refusal.NoMemory) e h = wrote_for_want file bytes (there (done (Some (file, bytes)) []) e) (from_before (HoldsPart file bytes) h.err.0) refl
+      subst (λ n. Ends {T = U} (then_plan p k) before after old old (Err (refusal.Unwritten n))) (sym h.err.1.0)
+      (wrote_part file bytes (there (done (Some (file, bytes)) []) e) (from_before (HoldsPart file bytes) h.err.0)
+      (from_start h.err.1.1) refl)
+  ends_written file bytes (Err refusal.NoMemory) e h =
+      wrote_for_want file bytes (there (done (Some (file, bytes)) []) e) (from_before (HoldsPart file bytes) h.err.0) refl
   ends_written file bytes (Err (refusal.Fault name first)) e h = absurd h.err.1
   ends_written file bytes (Err (refusal.Limit word count)) e h = absurd h.err.1
   ends_written file bytes (Err (refusal.Unread name)) e h = absurd h.err.1
@@ -328,7 +403,8 @@ module _ {T A : Type 0} (seen : T → A) (k : A → Plan Answer) (p : Plan A) (b
   ends_written file bytes (Err (refusal.NotEnabled name line tokens)) e h = absurd h.err.1
 
   -- it printed a text
-  pub ends_shown : {U : Type 0} (text : List ℕ) (r : Result U Refusal) → k (seen x) ≡ gives (done None text) → Shows text old new r → Ends (then_plan p k) before mid old new r
+  pub ends_shown : {U : Type 0} (text : List ℕ) (r : Result U Refusal) → k (seen x) ≡ gives (done None text) → Shows text old new r
+      → Ends (then_plan p k) before mid old new r
   ends_shown {U} text (Ok y) e h = showed_all y text (there (done None text) e) same_files h.ok
   ends_shown text (Err refusal.Unprinted) e h = showed_part text (done None text) refl (there (done None text) e) same_files h.err.1 h.err.0
   ends_shown text (Err refusal.NoMemory) e h = showed_for_want text (done None text) refl (there (done None text) e) same_files h.err.0

@@ -15,7 +15,8 @@ pub code_in-fault : (source text : List ℕ) (first : Fault) → Err first ≡ f
 unfolding code_in
 code_in-fault source text first e = ap (code_given source) (sym e)
 
-module _ (source text code : List ℕ) (instructions : List (Fun × ℤ)) (read : Ok instructions ≡ flat_read text) (made : code ≡ flat_code instructions) where
+module _ (source text code : List ℕ) (instructions : List (Fun × ℤ)) (read : Ok instructions ≡ flat_read text) (made : code
+    ≡ flat_code instructions) where
   limited : code_in source text ≡ limited_code code
   unfolding code_in
   limited = ap (code_given source) (sym read) ∙ ap limited_code (sym made)

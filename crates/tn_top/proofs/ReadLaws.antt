@@ -9,22 +9,36 @@ use Rattle.tn_text.specs.declared.limits.Limit.TheVariants.{File}
 use Rattle.tn_top.specs.Plans.{reads, gives, stays, reads_on, too_long}
 use Rattle.tn_top.specs.Inner.Stages.{Unable, Staged}
 
-told_held : (files : Option Files) (name text : List ℕ) → IfSome (told files name) (λ f. f ≡ Some text) → IfSome files (λ fs. held fs name ≡ Some text)
+told_held : (files : Option Files) (name text : List ℕ) → IfSome (told files name) (λ f. f ≡ Some text)
+    → IfSome files (λ fs. held fs name ≡ Some text)
 told_held None name text h = tt
 told_held (Some fs) name text h = h
 
-told_long : (files : Option Files) (name : List ℕ) → IfSome (told files name) (λ f. IsSomeAnd f (λ bs. FILE_LIMIT < length bs)) → IfSome files (λ fs. IsSomeAnd (held fs name) (λ bs. FILE_LIMIT < length bs))
+told_long : (files : Option Files) (name : List ℕ) → IfSome (told files name) (λ f. IsSomeAnd f (λ bs. FILE_LIMIT < length bs))
+    → IfSome files (λ fs. IsSomeAnd (held fs name) (λ bs. FILE_LIMIT < length bs))
 told_long None name h = tt
 told_long (Some fs) name h = h
 
-module _ (name : List ℕ) (before after : Stored) (same : after ≡ record before { read_faults = after.read_faults }) (count : before.read_faults ≤ after.read_faults) where
-  pub read-ok : (text : Vec ℕ Global) → length text.items ≤ FILE_LIMIT → IfSome (told before.files name) (λ f. f ≡ Some text.items) → Staged {T = Vec ℕ Global} (λ t. t.items) (reads name gives) before after (Ok text)
-  read-ok text short h = record { ok = reads_on text.items (told_held before.files name text.items h) short stays; err = tt; same = same; count = count }
+module _ (name : List ℕ) (before after : Stored) (same : after ≡ record before {
+  read_faults =
+      after.read_faults;
+}) (count : before.read_faults ≤ after.read_faults) where
+  pub read-ok : (text : Vec ℕ Global) → length text.items ≤ FILE_LIMIT → IfSome (told before.files name) (λ f. f ≡ Some text.items)
+      → Staged {T = Vec ℕ Global} (λ t. t.items) (reads name gives) before after (Ok text)
+  read-ok text short h = record {
+    ok = reads_on text.items (told_held before.files name text.items h) short stays;
+    err = tt;
+    same =
+        same;
+    count = count;
+  }
 
-  pub read-failed : Rose before.read_faults after.read_faults ⊎ (told before.files name ≡ Some None) → Staged {T = Vec ℕ Global} (λ t. t.items) (reads name gives) before after (Err (Unread name))
+  pub read-failed : Rose before.read_faults after.read_faults ⊎ (told before.files name ≡ Some None)
+      → Staged {T = Vec ℕ Global} (λ t. t.items) (reads name gives) before after (Err (Unread name))
   unfolding Unable
   read-failed h = record { ok = tt; err = (gives, stays, h); same = same; count = count }
 
-  pub read-long : IfSome (told before.files name) (λ f. IsSomeAnd f (λ bs. FILE_LIMIT < length bs)) → Staged {T = Vec ℕ Global} (λ t. t.items) (reads name gives) before after (Err (Limit File (FILE_LIMIT + 1)))
+  pub read-long : IfSome (told before.files name) (λ f. IsSomeAnd f (λ bs. FILE_LIMIT < length bs))
+      → Staged {T = Vec ℕ Global} (λ t. t.items) (reads name gives) before after (Err (Limit File (FILE_LIMIT + 1)))
   unfolding Unable
   read-long h = record { ok = tt; err = too_long (told_long before.files name h); same = same; count = count }

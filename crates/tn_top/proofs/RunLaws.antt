@@ -1,5 +1,5 @@
 -- What `run` promises of a command that ended, by the plan that the words ask for.
-use Rattle.std.proofs.Common.{◌≡◌, ◌⊎◌, ℕ, List, Option, Some, None, IfSome, Result, sym, subst}
+use Rattle.std.proofs.Common.{◌≡◌, ℕ, List, Option, Some, None, IfSome, Result, sym, subst}
 use Rattle.tn_text.specs.Counts.{Rose}
 use Rattle.tn_text.specs.declared.faults.Fault.{Fault}
 use Rattle.tn_text.specs.declared.limits.Limit.{Limit}
@@ -10,52 +10,62 @@ use Rattle.tn_top.specs.declared.statuses.Status.{Status}
 use Rattle.tn_top.specs.declared.statuses.Status.TheVariants as status
 use Rattle.tn_top.specs.Plans.{Answer, fault, limit, refused, Plan}
 use Rattle.tn_top.specs.Commands.{answer_to}
-use Rattle.tn_top.specs.Outcomes.{Told, HasCause, NothingFailed, FilesAfter, PrintedAfter, Writes, status_of}
+use Rattle.tn_top.specs.Outcomes.{Told, HasCause, NothingFailed, Unless, FilesAfter, PrintedAfter, Writes, status_of}
 use Rattle.tn_top.specs.Refusals.{end_status, end_line}
 use Rattle.tn_top.specs.ErrLines.{IsLine}
 use Rattle.tn_top.specs.Inner.Ends.{Ends}
-use Rattle.tn_top.proofs.EndLaws.{ends_cause, ends_status, ends_fault, ends_limit, ends_not_enabled, ends_files, ends_closed, ends_print, ends_line}
+use Rattle.tn_top.proofs.EndLaws.{ends_cause, ends_status, ends_fault, ends_limit, ends_not_enabled, ends_files, ends_closed, ends_print}
+use Rattle.tn_top.proofs.EndLaws.{ends_line}
 
--- the status is this or the command wanted memory
-abbrev Unless : Status → Status → Type 0
-Unless s wanted = (s ≡ status.NoMemory) ⊎ (s ≡ wanted)
+module _
+    {T : Type 0} (asked : Option (Plan Answer)) (plan : Plan Answer) (is : asked ≡ Some plan) (before after : Stored) (old new : Printed)
+    (r : Result T Refusal) (ends : Ends plan before after old new r) (s : Status) (said : s ≡ end_status r)
+  where
+    -- what holds of the plan and of the status of the end holds of what was asked and of the status
+    carried : (P : Option (Plan Answer) → Status → Type 0) → P (Some plan) (end_status r) → P asked s
+    carried P h = subst (λ a. P a s) (sym is) (subst (P (Some plan)) (sym said) h)
 
-module _ {T : Type 0} (asked : Option (Plan Answer)) (plan : Plan Answer) (is : asked ≡ Some plan) (before after : Stored) (old new : Printed) (r : Result T Refusal) (ends : Ends plan before after old new r) (s : Status) (said : s ≡ end_status r) where
-  -- what holds of the plan and of the status of the end holds of what was asked and of the status
-  carried : (P : Option (Plan Answer) → Status → Type 0) → P (Some plan) (end_status r) → P asked s
-  carried P h = subst (λ a. P a s) (sym is) (subst (P (Some plan)) (sym said) h)
+    pub run_cause : HasCause asked before after old new s
+    run_cause = carried (λ a t. HasCause a before after old new t) (ends_cause plan before after old new r ends)
 
-  pub run_cause : HasCause asked before after old new s
-  run_cause = carried (λ a t. HasCause a before after old new t) (ends_cause plan before after old new r ends)
+    pub run_status : NothingFailed before after old new → IfSome before.files (λ fs. Unless s (status_of (answer_to asked fs)))
+    run_status = carried (λ a t. NothingFailed before after old new
+        → IfSome before.files (λ fs. Unless t (status_of (answer_to a fs)))) (ends_status plan before after old new r ends)
 
-  pub run_status : NothingFailed before after old new → IfSome before.files (λ fs. Unless s (status_of (answer_to asked fs)))
-  run_status = carried (λ a t. NothingFailed before after old new → IfSome before.files (λ fs. Unless t (status_of (answer_to a fs)))) (ends_status plan before after old new r ends)
+    pub run_fault : (Rose before.read_faults after.read_faults → ⊥)
+        → IfSome before.files (λ fs. (file : List ℕ) (first : Fault) → answer_to asked fs ≡ fault file first → Unless s status.Fault)
+    run_fault =
+        carried (λ a t. (Rose before.read_faults after.read_faults → ⊥)
+        → IfSome before.files (λ fs. (file : List ℕ) (first : Fault) → answer_to a fs ≡ fault file first → Unless t status.Fault))
+        (ends_fault plan before after old new r ends)
 
-  pub run_fault : (Rose before.read_faults after.read_faults → ⊥) → IfSome before.files (λ fs. (file : List ℕ) (first : Fault) → answer_to asked fs ≡ fault file first → Unless s status.Fault)
-  run_fault =
-      carried (λ a t. (Rose before.read_faults after.read_faults → ⊥) → IfSome before.files (λ fs. (file : List ℕ) (first : Fault) → answer_to a fs ≡ fault file first → Unless t status.Fault))
-      (ends_fault plan before after old new r ends)
+    pub run_limit : (Rose before.read_faults after.read_faults → ⊥)
+        → IfSome before.files (λ fs. (which : Limit) (count : ℕ) → answer_to asked fs ≡ limit which count → Unless s status.Limit)
+    run_limit =
+        carried (λ a t. (Rose before.read_faults after.read_faults → ⊥)
+        → IfSome before.files (λ fs. (which : Limit) (count : ℕ) → answer_to a fs ≡ limit which count → Unless t status.Limit))
+        (ends_limit plan before after old new r ends)
 
-  pub run_limit : (Rose before.read_faults after.read_faults → ⊥) → IfSome before.files (λ fs. (which : Limit) (count : ℕ) → answer_to asked fs ≡ limit which count → Unless s status.Limit)
-  run_limit =
-      carried (λ a t. (Rose before.read_faults after.read_faults → ⊥) → IfSome before.files (λ fs. (which : Limit) (count : ℕ) → answer_to a fs ≡ limit which count → Unless t status.Limit))
-      (ends_limit plan before after old new r ends)
+    pub run_not_enabled : (Rose before.read_faults after.read_faults → ⊥) → (Rose old.faults new.faults → ⊥)
+        → IfSome before.files (λ fs. (file : List ℕ) (line : ℕ) (tokens text : List ℕ) → answer_to asked fs ≡ refused file line tokens text
+        → Unless s status.NotEnabled)
+    run_not_enabled =
+        carried (λ a t. (Rose before.read_faults after.read_faults → ⊥) → (Rose old.faults new.faults → ⊥)
+        → IfSome before.files (λ fs. (file : List ℕ) (line : ℕ) (tokens text : List ℕ) → answer_to a fs ≡ refused file line tokens text
+        → Unless t status.NotEnabled))
+        (ends_not_enabled plan before after old new r ends)
 
-  pub run_not_enabled : (Rose before.read_faults after.read_faults → ⊥) → (Rose old.faults new.faults → ⊥)
-      → IfSome before.files (λ fs. (file : List ℕ) (line : ℕ) (tokens text : List ℕ) → answer_to asked fs ≡ refused file line tokens text → Unless s status.NotEnabled)
-  run_not_enabled =
-      carried (λ a t. (Rose before.read_faults after.read_faults → ⊥) → (Rose old.faults new.faults → ⊥)
-      → IfSome before.files (λ fs. (file : List ℕ) (line : ℕ) (tokens text : List ℕ) → answer_to a fs ≡ refused file line tokens text → Unless t status.NotEnabled))
-      (ends_not_enabled plan before after old new r ends)
+    pub run_files : IfSome before.files (λ fs. Told before.files after.files (FilesAfter (answer_to asked fs) s))
+    run_files = carried (λ a t. IfSome before.files (λ fs. Told before.files after.files (FilesAfter (answer_to a fs) t)))
+        (ends_files plan before after old new r ends)
 
-  pub run_files : IfSome before.files (λ fs. Told before.files after.files (FilesAfter (answer_to asked fs) s))
-  run_files = carried (λ a t. IfSome before.files (λ fs. Told before.files after.files (FilesAfter (answer_to a fs) t))) (ends_files plan before after old new r ends)
+    pub run_closed : (target : List ℕ) → Writes asked target → s ≡ status.Done → after.opened ≡ None
+    run_closed = carried (λ a t. (target : List ℕ) → Writes a target → t ≡ status.Done
+        → after.opened ≡ None) (λ target w. ends_closed plan before after old new target r w ends)
 
-  pub run_closed : (target : List ℕ) → Writes asked target → s ≡ status.Done → after.opened ≡ None
-  run_closed = carried (λ a t. (target : List ℕ) → Writes a target → t ≡ status.Done → after.opened ≡ None) (λ target w. ends_closed plan before after old new target r w ends)
+    pub run_print : IfSome before.files (λ fs. PrintedAfter (answer_to asked fs) s old new)
+    run_print = carried (λ a t. IfSome before.files (λ fs. PrintedAfter (answer_to a fs) t old new))
+        (ends_print plan before after old new r ends)
 
-  pub run_print : IfSome before.files (λ fs. PrintedAfter (answer_to asked fs) s old new)
-  run_print = carried (λ a t. IfSome before.files (λ fs. PrintedAfter (answer_to a fs) t old new)) (ends_print plan before after old new r ends)
-
-  pub run_line : IsLine asked before after s (end_line r)
-  run_line = carried (λ a t. IsLine a before after t (end_line r)) (ends_line plan before after old new r ends)
+    pub run_line : IsLine asked before after s (end_line r)
+    run_line = carried (λ a t. IsLine a before after t (end_line r)) (ends_line plan before after old new r ends)

@@ -1,5 +1,6 @@
 -- Of stages, one after the other.
-use Rattle.std.proofs.Common.{◌≡◌, ℕ, ◌≤◌, ◌⊎◌, inl, inr, List, [], ◌∷◌, ◌++◌, Some, None, Result, Ok, Err, IfOk, IfErr, refl, sym, ap, ◌∙◌, subst, arith}
+use Rattle.std.proofs.Common.{◌≡◌, ℕ, ◌≤◌, ◌⊎◌, inl, inr, List, [], ◌∷◌, ◌++◌, Some, None, Result, Ok, Err, IfOk, IfErr, refl, sym, ap}
+use Rattle.std.proofs.Common.{◌∙◌, subst, arith}
 use Rattle.tn_text.specs.Counts.{Rose}
 use Rattle.tn_io.specs.Stores.{Stored, told}
 use Rattle.tn_top.specs.declared.refusals.Refusal.{Refusal}
@@ -13,7 +14,8 @@ rose-later a b c h (inl r) = inl (omega arith)
 rose-later a b c h (inr r) = inr r
 
 -- what stops a plan stops it with another behind it
-pub unable-then : {A B : Type 0} (k : A → Plan B) (p : Plan A) (before after : Stored) (why : Refusal) → Unable p before after why → Unable (then_plan p k) before after why
+pub unable-then : {A B : Type 0} (k : A → Plan B) (p : Plan A) (before after : Stored) (why : Refusal) → Unable p before after why
+    → Unable (then_plan p k) before after why
 unfolding Unable then_plan
 unable-then k p before after (Fault file first) h = goes-then before.files k p (stops (fault file first)) h
 unable-then k p before after (Limit word count) h = goes-then before.files k p (stops (limit word count)) h
@@ -24,13 +26,18 @@ unable-then k p before after (NotEnabled file line tokens) h = h
 unable-then k p before after NoMemory h = h
 
 -- what stops a plan behind a place that was reached stops the whole
-pub unable-behind : {A : Type 0} (p q : Plan A) (before mid after : Stored) (why : Refusal) → mid.files ≡ before.files → before.read_faults ≤ mid.read_faults → Goes before.files p q → Unable q mid after why → Unable p before after why
+pub unable-behind : {A : Type 0} (p q : Plan A) (before mid after : Stored) (why : Refusal) → mid.files ≡ before.files
+    → before.read_faults ≤ mid.read_faults → Goes before.files p q → Unable q mid after why → Unable p before after why
 unfolding Unable
-unable-behind p q before mid after (Fault file first) e c g h = goes-joined before.files p q _ g (subst (λ f. Goes f q (stops (fault file first))) e h)
-unable-behind p q before mid after (Limit word count) e c g h = goes-joined before.files p q _ g (subst (λ f. Goes f q (stops (limit word count))) e h)
-unable-behind p q before mid after (Unread file) e c g h = (h.0, goes-joined before.files p q _ g (subst (λ f. Goes f q (reads file h.0)) e h.1), at h.2)
+unable-behind p q before mid after (Fault file first) e c g h =
+    goes-joined before.files p q _ g (subst (λ f. Goes f q (stops (fault file first))) e h)
+unable-behind p q before mid after (Limit word count) e c g h =
+    goes-joined before.files p q _ g (subst (λ f. Goes f q (stops (limit word count))) e h)
+unable-behind p q before mid after (Unread file) e c g h =
+    (h.0, goes-joined before.files p q _ g (subst (λ f. Goes f q (reads file h.0)) e h.1), at h.2)
   where
-    at : Rose mid.read_faults after.read_faults ⊎ (told mid.files file ≡ Some None) → Rose before.read_faults after.read_faults ⊎ (told before.files file ≡ Some None)
+    at : Rose mid.read_faults after.read_faults ⊎ (told mid.files file ≡ Some None)
+        → Rose before.read_faults after.read_faults ⊎ (told before.files file ≡ Some None)
     at (inl r) = inl (rose-later before.read_faults mid.read_faults after.read_faults c r)
     at (inr m) = inr (ap (λ f. told f file) (sym e) ∙ m)
 unable-behind p q before mid after (Unwritten file) e c g h = h
@@ -39,11 +46,20 @@ unable-behind p q before mid after (NotEnabled file line tokens) e c g h = h
 unable-behind p q before mid after NoMemory e c g h = h
 
 -- a first stage that gave nothing
-pub staged-stopped : {T U A B : Type 0} (one : T → A) (two : U → B) (k : A → Plan B) (p : Plan A) (before after : Stored) (why : Refusal) → Staged one p before after (Err why) → Staged two (then_plan p k) before after (Err why)
-staged-stopped one two k p before after why s = record { ok = tt; err = unable-then k p before after why s.err; same = s.same; count = s.count }
+pub staged-stopped : {T U A B : Type 0} (one : T → A) (two : U → B) (k : A → Plan B) (p : Plan A) (before after : Stored) (why : Refusal)
+    → Staged one p before after (Err why) → Staged two (then_plan p k) before after (Err why)
+staged-stopped one two k p before after why s = record {
+  ok = tt;
+  err = unable-then k p before after why s.err;
+  same = s.same;
+  count =
+      s.count;
+}
 
 -- a first stage that gave a value, and what follows
-pub staged-then : {T U A B : Type 0} (one : T → A) (two : U → B) (k : A → Plan B) (p : Plan A) (before mid after : Stored) (x : T) (result : Result U Refusal) → Staged one p before mid (Ok x) → Staged two (k (one x)) mid after result → Staged two (then_plan p k) before after result
+pub staged-then : {T U A B : Type 0} (one : T → A) (two : U → B) (k : A
+    → Plan B) (p : Plan A) (before mid after : Stored) (x : T) (result : Result U Refusal) → Staged one p before mid (Ok x)
+    → Staged two (k (one x)) mid after result → Staged two (then_plan p k) before after result
 unfolding then_plan
 staged-then {U} one two k p before mid after x result s t =
     let files : mid.files ≡ before.files = ap (λ m. m.files) s.same in
@@ -55,20 +71,42 @@ staged-then {U} one two k p before mid after x result s t =
       count = omega (arith, s.count, t.count);
     }
   where
-    at_ok : (r : Result U Refusal) → mid.files ≡ before.files → Goes before.files (then_plan p k) (k (one x)) → IfOk r (λ y. Goes mid.files (k (one x)) (gives (two y))) → IfOk r (λ y. Goes before.files (then_plan p k) (gives (two y)))
-    at_ok (Ok y) e g h = goes-joined before.files (then_plan p k) (k (one x)) (gives (two y)) g (subst (λ f. Goes f (k (one x)) (gives (two y))) e h)
+    at_ok : (r : Result U Refusal) → mid.files ≡ before.files → Goes before.files (then_plan p k) (k (one x))
+        → IfOk r (λ y. Goes mid.files (k (one x)) (gives (two y))) → IfOk r (λ y. Goes before.files (then_plan p k) (gives (two y)))
+    at_ok (Ok y) e g h = goes-joined before.files (then_plan p k) (k (one x)) (gives (two y)) g
+        (subst (λ f. Goes f (k (one x)) (gives (two y))) e h)
     at_ok (Err w) e g h = tt
 
-    at_err : (r : Result U Refusal) → mid.files ≡ before.files → Goes before.files (then_plan p k) (k (one x)) → IfErr r (Unable (k (one x)) mid after) → IfErr r (Unable (then_plan p k) before after)
+    at_err : (r : Result U Refusal) → mid.files ≡ before.files → Goes before.files (then_plan p k) (k (one x))
+        → IfErr r (Unable (k (one x)) mid after) → IfErr r (Unable (then_plan p k) before after)
     at_err (Ok y) e g h = tt
     at_err (Err w) e g h = unable-behind (then_plan p k) (k (one x)) before mid after w e s.count g h
 
 -- a stage that reads nothing
-pub staged-made : {T A : Type 0} (seen : T → A) (made : Result A Answer) (s : Stored) (result : Result T Refusal) → Makes seen made result → Staged seen (at_once made) s s result
+pub staged-made : {T A : Type 0} (seen : T → A) (made : Result A Answer) (s : Stored) (result : Result T Refusal) → Makes seen made result
+    → Staged seen (at_once made) s s result
 unfolding Unable
-staged-made seen made s (Ok x) h = record { ok = subst (λ m. Goes s.files (at_once m) (gives (seen x))) (sym h) stays; err = tt; same = refl; count = omega arith }
-staged-made seen made s (Err (Fault file first)) h = record { ok = tt; err = subst (λ m. Goes s.files (at_once m) (stops (fault file first))) (sym h) stays; same = refl; count = omega arith }
-staged-made seen made s (Err (Limit word count)) h = record { ok = tt; err = subst (λ m. Goes s.files (at_once m) (stops (limit word count))) (sym h) stays; same = refl; count = omega arith }
+staged-made seen made s (Ok x) h = record {
+  ok = subst (λ m. Goes s.files (at_once m) (gives (seen x))) (sym h) stays;
+  err = tt;
+  same =
+      refl;
+  count = omega arith;
+}
+staged-made seen made s (Err (Fault file first)) h = record {
+  ok = tt;
+  err =
+      subst (λ m. Goes s.files (at_once m) (stops (fault file first))) (sym h) stays;
+  same = refl;
+  count = omega arith;
+}
+staged-made seen made s (Err (Limit word count)) h = record {
+  ok = tt;
+  err =
+      subst (λ m. Goes s.files (at_once m) (stops (limit word count))) (sym h) stays;
+  same = refl;
+  count = omega arith;
+}
 staged-made seen made s (Err (Unread file)) h = absurd h
 staged-made seen made s (Err (Unwritten file)) h = absurd h
 staged-made seen made s (Err Unprinted) h = absurd h
@@ -84,30 +122,36 @@ pub record Walked {A B : Type 0} (f : B → Plan A) (all rest : List B) (so_far 
 pub walked-start : {A B : Type 0} (f : B → Plan A) (all : List B) (s : Stored) → Walked f all all [] s s
 walked-start f all s = record { goes = stays; same = refl; count = omega arith }
 
-module _ {T A B : Type 0} (seen : T → A) (f : B → Plan A) (all rest : List B) (b : B) (so_far : List A) (before now after : Stored) (w : Walked f all (b ∷ rest) so_far before now) where
+module _ {T A B : Type 0} (seen : T → A) (f : B → Plan A) (all rest : List B) (b : B) (so_far : List A) (before now after : Stored)
+    (w : Walked f all (b ∷ rest) so_far before now) where
   pub walked-step : (x : T) → Staged seen (f b) now after (Ok x) → Walked f all rest (so_far ++ seen x ∷ []) before after
   unfolding each_from then_plan
   walked-step x s = record {
     goes = goes-joined before.files (each f all) (each_from f so_far (b ∷ rest)) (each_from f (so_far ++ seen x ∷ []) rest) w.goes
-        (subst (λ files. Goes files (each_from f so_far (b ∷ rest)) (each_from f (so_far ++ seen x ∷ []) rest)) (ap (λ m. m.files) w.same) (goes-then now.files (λ y. each_from f (so_far ++ y ∷ []) rest) (f b) (gives (seen x)) s.ok));
+        (subst (λ files. Goes files (each_from f so_far (b ∷ rest)) (each_from f (so_far ++ seen x ∷ []) rest)) (ap (λ m. m.files) w.same)
+        (goes-then now.files (λ y. each_from f (so_far ++ y ∷ []) rest) (f b) (gives (seen x)) s.ok));
     same = s.same ∙ ap {A = Stored} (λ m. record m { read_faults = after.read_faults }) w.same;
     count = omega (arith, w.count, s.count);
   }
 
-  pub walked-stopped : {U : Type 0} (two : U → List A) (why : Refusal) → Staged seen (f b) now after (Err why) → Staged two (each f all) before after (Err why)
+  pub walked-stopped : {U : Type 0} (two : U → List A) (why : Refusal) → Staged seen (f b) now after (Err why)
+      → Staged two (each f all) before after (Err why)
   unfolding each_from then_plan
   walked-stopped two why s = record {
     ok = tt;
-    err = unable-behind (each f all) (each_from f so_far (b ∷ rest)) before now after why (ap (λ m. m.files) w.same) w.count w.goes (unable-then (λ y. each_from f (so_far ++ y ∷ []) rest) (f b) now after why s.err);
+    err = unable-behind (each f all) (each_from f so_far (b ∷ rest)) before now after why (ap (λ m. m.files) w.same) w.count w.goes
+        (unable-then (λ y. each_from f (so_far ++ y ∷ []) rest) (f b) now after why s.err);
     same = s.same ∙ ap {A = Stored} (λ m. record m { read_faults = after.read_faults }) w.same;
     count = omega (arith, w.count, s.count);
   }
 
-pub walked-wanting : {U A B : Type 0} (two : U → List A) (f : B → Plan A) (all rest : List B) (so_far : List A) (before now : Stored) → Walked f all rest so_far before now → Staged two (each f all) before now (Err NoMemory)
+pub walked-wanting : {U A B : Type 0} (two : U → List A) (f : B → Plan A) (all rest : List B) (so_far : List A) (before now : Stored)
+    → Walked f all rest so_far before now → Staged two (each f all) before now (Err NoMemory)
 unfolding Unable
 walked-wanting two f all rest so_far before now w = record { ok = tt; err = tt; same = w.same; count = w.count }
 
-pub walked-end : {U A B : Type 0} (two : U → List A) (f : B → Plan A) (all : List B) (so_far : List A) (before now : Stored) (xs : U) → Walked f all [] so_far before now → two xs ≡ so_far → Staged two (each f all) before now (Ok xs)
+pub walked-end : {U A B : Type 0} (two : U → List A) (f : B → Plan A) (all : List B) (so_far : List A) (before now : Stored) (xs : U)
+    → Walked f all [] so_far before now → two xs ≡ so_far → Staged two (each f all) before now (Ok xs)
 unfolding each_from
 walked-end two f all so_far before now xs w e = record {
   ok = subst (λ v. Goes before.files (each f all) (gives v)) (sym e) w.goes;

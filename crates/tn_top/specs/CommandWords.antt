@@ -1,5 +1,6 @@
 -- The words of a command line.
-use Rattle.std.specs.Prelude.{⊤, ℕ, ◌-◌, ◌<◌, Bool, false, not, ◌&&◌, ◌==◌, nat_le, List, [], ◌∷◌, length, Option, Some, None, codes, if◌then◌else◌}
+use Rattle.std.specs.Prelude.{⊤, ℕ, ◌-◌, ◌<◌, Bool, false, not, ◌&&◌, ◌==◌, nat_le, List, [], ◌∷◌, length, Option, Some, None, codes}
+use Rattle.std.specs.Prelude.{if◌then◌else◌}
 use Rattle.std.specs.Option.{option_map}
 use Rattle.std.specs.Str.{bytes_eq}
 use Rattle.tn_text.specs.declared.limits.TheConstants.{FILE_NAME_LIMIT}
@@ -24,7 +25,8 @@ flat_asked command source target =
 -- what four words ask for
 abbrev pub one_asked : List ℕ → List ℕ → List ℕ → List ℕ → Option Command
 one_asked command source target link =
-    if bytes_eq command (codes "one") && (is_file_word source && is_file_word target) then option_map (λ k. One source target k) (link_named link) else None
+    if bytes_eq command (codes "one") && (is_file_word source && is_file_word target) then option_map (λ k. One source target k)
+    (link_named link) else None
 
 -- what the words after the program's name ask for, if they spell a command
 unfoldable pub asked : List (List ℕ) → Option Command

@@ -37,13 +37,17 @@ pub record IsAnswer (asked : Option (Plan Answer)) (files : Option Files) (answe
 -- The line of a command that ended with a status: a row for each.
 abbrev pub IsLine : Option (Plan Answer) → Stored → Stored → Status → List ℕ → Type 0
 IsLine asked before after status.Done line = line ≡ []
-IsLine asked before after status.Fault line = (file : List ℕ) × (first : Fault) × (line ≡ fault_line file first) × IsAnswer asked before.files (fault file first)
+IsLine asked before after status.Fault line = (file : List ℕ) × (first : Fault) × (line ≡ fault_line file first)
+    × IsAnswer asked before.files (fault file first)
 IsLine asked before after status.Usage line = line ≡ usage_line
-IsLine asked before after status.Limit line = (which : Limit) × (count : ℕ) × (line ≡ limit_line which count) × IsAnswer asked before.files (limit which count)
+IsLine asked before after status.Limit line = (which : Limit) × (count : ℕ) × (line ≡ limit_line which count)
+    × IsAnswer asked before.files (limit which count)
 IsLine asked before after status.ReadFault line =
     (file : List ℕ) × (line ≡ unread_line file) × CannotRead (answer_to asked) before after file × ComesToRead asked before.files file
-IsLine asked before after status.WriteFault line = (file : List ℕ) × (bytes : List ℕ) × (line ≡ unwritten_line file) × IsAnswer asked before.files (done (Some (file, bytes)) [])
+IsLine asked before after status.WriteFault line = (file : List ℕ) × (bytes : List ℕ) × (line ≡ unwritten_line file)
+    × IsAnswer asked before.files (done (Some (file, bytes)) [])
 IsLine asked before after status.OutFault line = line ≡ unprinted_line
 IsLine asked before after status.NoMemory line = line ≡ memory_line
 IsLine asked before after status.NotEnabled line =
-    (file : List ℕ) × (number : ℕ) × (tokens text : List ℕ) × (line ≡ not_enabled_line file number tokens) × IsAnswer asked before.files (refused file number tokens text)
+    (file : List ℕ) × (number : ℕ) × (tokens text : List ℕ) × (line ≡ not_enabled_line file number tokens)
+    × IsAnswer asked before.files (refused file number tokens text)

@@ -1,7 +1,8 @@
 -- Exit codes.
 use Rattle.std.specs.Prelude.{ℕ}
 use Rattle.tn_top.specs.declared.statuses.Status.{Status}
-use Rattle.tn_top.specs.declared.statuses.Status.TheVariants.{Done, Fault, Usage, Limit, ReadFault, WriteFault, OutFault, NoMemory, NotEnabled}
+use Rattle.tn_top.specs.declared.statuses.Status.TheVariants.{Done, Fault, Usage, Limit, ReadFault, WriteFault, OutFault, NoMemory}
+use Rattle.tn_top.specs.declared.statuses.Status.TheVariants.{NotEnabled}
 
 -- the code that the program ends with
 abbrev pub exit_code : Status → ℕ

@@ -74,26 +74,37 @@ IsPrinted _ = ⊥
 -- without the file, where the files are told, is that it isn't there
 abbrev pub CannotRead : (Files → Answer) → Stored → Stored → List ℕ → Type 0
 CannotRead answer before after file =
-    IsSomeAnd before.files (λ files. answer files ≡ unread file) ⊎ (Rose before.read_faults after.read_faults × IfSome before.files (λ files. answer (without files file) ≡ unread file))
+    IsSomeAnd before.files (λ files. answer files ≡ unread file)
+    ⊎ (Rose before.read_faults after.read_faults × IfSome before.files (λ files. answer (without files file) ≡ unread file))
 
 -- What has to have happened where a command ends with a status: a row for each. `asked` is the plan that
 -- the words ask for, if they spell a command.
 abbrev pub HasCause : Option (Plan Answer) → Stored → Stored → Printed → Printed → Status → Type 0
 HasCause asked before after old new status.Done = IfSome before.files (λ files. IsDone (answer_to asked files))
-HasCause asked before after old new status.Fault = IfSome before.files (λ files. (file : List ℕ) × (first : Fault) × (answer_to asked files ≡ fault file first))
+HasCause asked before after old new status.Fault =
+    IfSome before.files (λ files. (file : List ℕ) × (first : Fault) × (answer_to asked files ≡ fault file first))
 HasCause asked before after old new status.Usage = asked ≡ None
-HasCause asked before after old new status.Limit = IfSome before.files (λ files. (which : Limit) × (count : ℕ) × (answer_to asked files ≡ limit which count))
+HasCause asked before after old new status.Limit =
+    IfSome before.files (λ files. (which : Limit) × (count : ℕ) × (answer_to asked files ≡ limit which count))
 HasCause asked before after old new status.ReadFault = (file : List ℕ) × CannotRead (answer_to asked) before after file
-HasCause asked before after old new status.WriteFault = Rose before.write_faults after.write_faults × IfSome before.files (λ files. IsDone (answer_to asked files))
-HasCause asked before after old new status.OutFault = Rose old.faults new.faults × IfSome before.files (λ files. IsPrinted (answer_to asked files))
+HasCause asked before after old new status.WriteFault = Rose before.write_faults after.write_faults
+    × IfSome before.files (λ files. IsDone (answer_to asked files))
+HasCause asked before after old new status.OutFault = Rose old.faults new.faults
+    × IfSome before.files (λ files. IsPrinted (answer_to asked files))
 HasCause asked before after old new status.NoMemory = ⊤
-HasCause asked before after old new status.NotEnabled = IfSome before.files (λ files. (file : List ℕ) × (line : ℕ) × (tokens text : List ℕ) × (answer_to asked files ≡ refused file line tokens text))
+HasCause asked before after old new status.NotEnabled =
+    IfSome before.files (λ files. (file : List ℕ) × (line : ℕ) × (tokens text : List ℕ)
+    × (answer_to asked files ≡ refused file line tokens text))
 
 -- no call failed
 pub record NothingFailed (before after : Stored) (old new : Printed) : Type 0 where
   pub reading : Rose before.read_faults after.read_faults → ⊥
   pub writing : Rose before.write_faults after.write_faults → ⊥
   pub printing : Rose old.faults new.faults → ⊥
+
+-- the status is this, unless memory ran out
+abbrev pub Unless : Status → Status → Type 0
+Unless s wanted = (s ≡ status.NoMemory) ⊎ (s ≡ wanted)
 
 -- what the files hold after a command, by the answer and the status
 abbrev pub FilesAfter : Answer → Status → Files → Files → Type 0

@@ -1,5 +1,6 @@
 -- What a command reads, one file after the other, and what it makes of it.
-use Rattle.std.specs.Prelude.{◌≡◌, ℕ, ◌+◌, ◌<◌, ◌≤◌, nat_lt, List, [], ◌∷◌, ◌++◌, length, Option, Some, None, IfSome, IsSomeAnd, Result, Ok, Err, if◌then◌else◌}
+use Rattle.std.specs.Prelude.{◌≡◌, ℕ, ◌+◌, ◌<◌, ◌≤◌, nat_lt, List, [], ◌∷◌, ◌++◌, length, Option, Some, None, IfSome, IsSomeAnd, Result}
+use Rattle.std.specs.Prelude.{Ok, Err, if◌then◌else◌}
 use Rattle.tn_io.specs.FileLists.{Files, held}
 use Rattle.tn_text.specs.declared.faults.Fault.{Fault}
 use Rattle.tn_text.specs.declared.limits.TheConstants.{FILE_LIMIT}
@@ -66,5 +67,7 @@ answer_of plan files = either_answer (found plan files)
 -- may have, and is the file's where the files are told.
 pub data Goes {A : Type 0} (files : Option Files) : Plan A → Plan A → Type 0 where
   stays : {p : Plan A} → Goes files p p
-  reads_on : {file : List ℕ} {next : List ℕ → Plan A} {q : Plan A} (text : List ℕ) → IfSome files (λ fs. held fs file ≡ Some text) → length text ≤ FILE_LIMIT → Goes files (next text) q → Goes files (reads file next) q
-  too_long : {file : List ℕ} {next : List ℕ → Plan A} → IfSome files (λ fs. IsSomeAnd (held fs file) (λ text. FILE_LIMIT < length text)) → Goes files (reads file next) (stops (limit File (FILE_LIMIT + 1)))
+  reads_on : {file : List ℕ} {next : List ℕ → Plan A} {q : Plan A} (text : List ℕ) → IfSome files (λ fs. held fs file ≡ Some text)
+      → length text ≤ FILE_LIMIT → Goes files (next text) q → Goes files (reads file next) q
+  too_long : {file : List ℕ} {next : List ℕ → Plan A} → IfSome files (λ fs. IsSomeAnd (held fs file) (λ text. FILE_LIMIT < length text))
+      → Goes files (reads file next) (stops (limit File (FILE_LIMIT + 1)))

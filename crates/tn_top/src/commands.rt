@@ -1,4 +1,4 @@
-ghost use Rattle.std.specs.Prelude.{◌≡◌, ◌<◌, ◌⊎◌, ℕ, List, map, string_bytes, None, IfSome};
+ghost use Rattle.std.specs.Prelude.{◌≡◌, ◌<◌, ℕ, List, map, string_bytes, None, IfSome};
 ghost use Rattle.tn_text.specs.Counts.{Rose};
 ghost use Rattle.tn_io.specs.Outs.{Printed};
 ghost use Rattle.tn_text.specs.declared.faults.Fault.{Fault};
@@ -7,7 +7,8 @@ ghost use Rattle.tn_top.specs.CommandWords.{asked, HasLink};
 ghost use Rattle.tn_top.specs.OneProcessor.{boot_stream};
 ghost use Rattle.tn_top.specs.Plans.{fault, limit, refused, then_plan};
 ghost use Rattle.tn_top.specs.Commands.{code_plan, written_from, plan_of, plan_asked, answer};
-ghost use Rattle.tn_top.specs.Outcomes.{Told, HasCause, NothingFailed, FilesAfter, PrintedAfter, Writes, status_of as answer_status};
+ghost use Rattle.tn_top.specs.Outcomes.{Told, HasCause, NothingFailed, Unless, FilesAfter, PrintedAfter, Writes};
+ghost use Rattle.tn_top.specs.Outcomes.{status_of as answer_status};
 ghost use Rattle.tn_top.specs.ErrLines.{Tells, IsLine};
 ghost use Rattle.tn_top.specs.Inner.Ends.{Ends};
 
@@ -31,11 +32,12 @@ pub fn run<S: Store, O: Out>(
     err: &mut O,
 ) -> Status
     // The status has its cause.
-    ensures cause { HasCause (plan_asked (map string_bytes words.now)) (S.stored store.old) (S.stored store.new) (O.printed out.old) (O.printed out.new) result }
+    ensures cause { HasCause (plan_asked (map string_bytes words.now)) (S.stored store.old) (S.stored store.new)
+        (O.printed out.old) (O.printed out.new) result }
 
     // Where no call failed, the status is the answer's, unless memory ran out.
     ensures status { NothingFailed (S.stored store.old) (S.stored store.new) (O.printed out.old) (O.printed out.new)
-        → IfSome (S.stored store.old).files (λ files. (result ≡ Status.NoMemory) ⊎ (result ≡ answer_status (answer (map string_bytes words.now) files))) }
+        → IfSome (S.stored store.old).files (λ files. Unless result (answer_status (answer (map string_bytes words.now) files))) }
 
     // `Usage` comes exactly where the words spell no command; a fault, a limit and a step that is not
     // enabled come exactly where they are the answer and no read, and for the last no print, failed,
@@ -43,22 +45,27 @@ pub fn run<S: Store, O: Out>(
     ensures usage { asked (map string_bytes words.now) ≡ None → result ≡ Status.Usage }
     ensures fault { (Rose (S.stored store.old).read_faults (S.stored store.new).read_faults → ⊥)
         → IfSome (S.stored store.old).files (λ files. (file : List ℕ) (first : Fault)
-        → answer (map string_bytes words.now) files ≡ fault file first → (result ≡ Status.NoMemory) ⊎ (result ≡ Status.Fault)) }
+        → answer (map string_bytes words.now) files ≡ fault file first → Unless result Status.Fault) }
     ensures limit { (Rose (S.stored store.old).read_faults (S.stored store.new).read_faults → ⊥)
         → IfSome (S.stored store.old).files (λ files. (which : Limit) (count : ℕ)
-        → answer (map string_bytes words.now) files ≡ limit which count → (result ≡ Status.NoMemory) ⊎ (result ≡ Status.Limit)) }
-    ensures not_enabled { (Rose (S.stored store.old).read_faults (S.stored store.new).read_faults → ⊥) → (Rose (O.printed out.old).faults (O.printed out.new).faults → ⊥)
+        → answer (map string_bytes words.now) files ≡ limit which count → Unless result Status.Limit) }
+    ensures not_enabled { (Rose (S.stored store.old).read_faults (S.stored store.new).read_faults → ⊥)
+        → (Rose (O.printed out.old).faults (O.printed out.new).faults → ⊥)
         → IfSome (S.stored store.old).files (λ files. (file : List ℕ) (line : ℕ) (tokens text : List ℕ)
-        → answer (map string_bytes words.now) files ≡ refused file line tokens text → (result ≡ Status.NoMemory) ⊎ (result ≡ Status.NotEnabled)) }
+        → answer (map string_bytes words.now) files ≡ refused file line tokens text → Unless result Status.NotEnabled) }
 
     // What each name holds after the command, and that no file is open after `Done` of a command that
     // writes one.
-    ensures files { IfSome (S.stored store.old).files (λ files. Told (S.stored store.old).files (S.stored store.new).files (FilesAfter (answer (map string_bytes words.now) files) result)) }
-    ensures closed { (target : List ℕ) → Writes (plan_asked (map string_bytes words.now)) target → result ≡ Status.Done → (S.stored store.new).opened ≡ None }
+    ensures files { IfSome (S.stored store.old).files (λ files.
+        Told (S.stored store.old).files (S.stored store.new).files (FilesAfter (answer (map string_bytes words.now) files) result)) }
+    ensures closed { (target : List ℕ) → Writes (plan_asked (map string_bytes words.now)) target → result ≡ Status.Done
+        → (S.stored store.new).opened ≡ None }
 
     // What is printed, and what is told on the error output: the line of the status.
-    ensures print { IfSome (S.stored store.old).files (λ files. PrintedAfter (answer (map string_bytes words.now) files) result (O.printed out.old) (O.printed out.new)) }
-    ensures err { (line : List ℕ) × IsLine (plan_asked (map string_bytes words.now)) (S.stored store.old) (S.stored store.new) result line × Tells line (O.printed err.old) (O.printed err.new) }
+    ensures print { IfSome (S.stored store.old).files (λ files.
+        PrintedAfter (answer (map string_bytes words.now) files) result (O.printed out.old) (O.printed out.new)) }
+    ensures err { (line : List ℕ) × IsLine (plan_asked (map string_bytes words.now)) (S.stored store.old) (S.stored store.new) result line
+        × Tells line (O.printed err.old) (O.printed err.new) }
     ensures out_goes_on { O.goes_on out.old out.new }
     ensures err_goes_on { O.goes_on err.old err.new }
 {
@@ -79,7 +86,8 @@ fn perform<S: Store, O: Out>(
     out: &mut O,
 ) -> Result<(), Refusal>
     requires { HasLink command }
-    ensures ends { Ends (plan_of command) (S.stored store.old) (S.stored store.new) (O.printed out.old) (O.printed out.new) result }
+    ensures ends { Ends (plan_of command) (S.stored store.old) (S.stored store.new) (O.printed out.old)
+        (O.printed out.new) result }
     ensures goes_on { O.goes_on out.old out.new }
 {
     match command {
@@ -99,7 +107,8 @@ fn flat<S: Store>(
     target: &FileName,
     store: &mut S,
 ) -> Result<(), Refusal>
-    ensures { (said : Printed) → Ends (then_plan (code_plan source.now) (written_from target.now (λ code. code))) (S.stored store.old) (S.stored store.new) said said result }
+    ensures { (said : Printed) → Ends (then_plan (code_plan source.now) (written_from target.now (λ code. code)))
+        (S.stored store.old) (S.stored store.new) said said result }
 {
     let code = read_code(alloc, source, store)?;
     write_file(target, &code, store)
@@ -115,7 +124,8 @@ fn one<S: Store>(
     store: &mut S,
 ) -> Result<(), Refusal>
     requires { link < 4 }
-    ensures { (said : Printed) → Ends (then_plan (code_plan source.now) (written_from target.now (boot_stream link))) (S.stored store.old) (S.stored store.new) said said result }
+    ensures { (said : Printed) → Ends (then_plan (code_plan source.now) (written_from target.now (boot_stream link)))
+        (S.stored store.old) (S.stored store.new) said said result }
 {
     let code = read_code(alloc, source, store)?;
     write_code_stream(alloc, target, link, code, store)

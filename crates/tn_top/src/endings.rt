@@ -17,7 +17,8 @@ pub fn write_file<S: Store>(name: &FileName, bytes: &[u8], store: &mut S) -> Res
 
 /// How a command ends whose file was written, or was not.
 pub fn after_put(name: &FileName, put: Result<(), PutFault>) -> Result<(), Refusal>
-    ensures { (bytes : List ℕ) (before after : Stored) → PutsFile name.now bytes put before after → Puts name.now bytes before after result }
+    ensures { (bytes : List ℕ) (before after : Stored) → PutsFile name.now bytes put before after
+        → Puts name.now bytes before after result }
 {
     match put {
         Ok(()) => Ok(()),

@@ -131,7 +131,8 @@ fn emit_to<S: Store>(
     requires there { IsThere (S.stored out.old.store.now).opened (S.stored out.old.store.now).files }
     requires no_kind { out.old.kind ≡ None }
     requires unrefused { out.old.refused ≡ 0 }
-    ensures extends { Extends name.now (stream (one_processor link (image_of image.now))) result (S.stored out.old.store.now) (S.stored out.new.store.now) }
+    ensures extends { Extends name.now (stream (one_processor link (image_of image.now))) result (S.stored out.old.store.now)
+        (S.stored out.new.store.now) }
     ensures same_reference { out.new.store.ghost_name ≡ out.old.store.ghost_name }
 {
     match collect_one(alloc, link, image, out) {

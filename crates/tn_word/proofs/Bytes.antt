@@ -12,7 +12,8 @@ pub word_of-bytes_of_word : (w : ℕ) (rest : List ℕ) → w < 2 ^ 32 → word_
 word_of-bytes_of_word w rest h = omega arith
 
 -- the word that four bytes read as has these bytes
-pub bytes_of_word-word_of : (bytes : List ℕ) → 4 ≤ length bytes → ((k : ℕ) → get_or bytes k 0 < 256) → bytes_of_word (word_of bytes) ≡ take 4 bytes
+pub bytes_of_word-word_of : (bytes : List ℕ) → 4 ≤ length bytes → ((k : ℕ) → get_or bytes k 0 < 256)
+    → bytes_of_word (word_of bytes) ≡ take 4 bytes
 bytes_of_word-word_of (a ∷ b ∷ c ∷ d ∷ rest) long small =
     let in_a : a < 256 = small 0 in
     let in_b : b < 256 = small 1 in
@@ -27,5 +28,6 @@ bytes_of_word-word_of (a ∷ b ∷ c ∷ d ∷ rest) long small =
 bytes_of_word-word_of bytes long small = absurd (omega arith)
 
 -- the bytes of a word read as that word wherever they stand
-pub word_from-bytes_of_word : (before after : List ℕ) (w : ℕ) → w < 2 ^ 32 → word_from (before ++ bytes_of_word w ++ after) (length before) ≡ Some w
+pub word_from-bytes_of_word : (before after : List ℕ) (w : ℕ) → w < 2 ^ 32
+    → word_from (before ++ bytes_of_word w ++ after) (length before) ≡ Some w
 word_from-bytes_of_word before after w h = grind (arith, common_steps)

@@ -1,5 +1,6 @@
 -- How a command ended that follows a plan, and how its last step ended.
-use Rattle.std.specs.Prelude.{◌≡◌, ◌≤◌, ⊤, ℕ, List, [], ◌++◌, take, Some, None, unwrap_or, Vec, Result, Ok, Err, IfErr, OnOk, OnErr, IsErrOf}
+use Rattle.std.specs.Prelude.{◌≡◌, ◌≤◌, ⊤, ℕ, List, [], ◌++◌, take, Some, None, unwrap_or, Vec, Result, Ok, Err, IfErr, OnOk, OnErr}
+use Rattle.std.specs.Prelude.{IsErrOf}
 use Rattle.std.specs.declared.alloc.Global.{Global}
 use Rattle.tn_text.specs.Counts.{Rose}
 use Rattle.tn_io.specs.declared.faults.PutFault.{PutFault}
@@ -22,12 +23,14 @@ Prints text _ = ⊥
 -- How a command ended that follows a plan: a row for each end.
 pub data Ends {T : Type 0} (plan : Plan Answer) (before after : Stored) (old new : Printed) : Result T Refusal → Type 0 where
   wrote_all : (x : T) (file bytes : List ℕ)
-      → Goes before.files plan (gives (done (Some (file, bytes)) [])) → Told before.files after.files (Holds file bytes) → after.opened ≡ None
+      → Goes before.files plan (gives (done (Some (file, bytes)) [])) → Told before.files after.files (Holds file bytes)
+      → after.opened ≡ None
       → new.bytes ≡ old.bytes → Ends plan before after old new (Ok x)
   showed_all : (x : T) (text : List ℕ)
       → Goes before.files plan (gives (done None text)) → after.files ≡ before.files
       → new.bytes ≡ told_then text old.bytes → Ends plan before after old new (Ok x)
-  unable : (why : Refusal) → Unable plan before after why → after.files ≡ before.files → new.bytes ≡ old.bytes → Ends plan before after old new (Err why)
+  unable : (why : Refusal) → Unable plan before after why → after.files ≡ before.files → new.bytes ≡ old.bytes
+      → Ends plan before after old new (Err why)
   wrote_part : (file bytes : List ℕ)
       → Goes before.files plan (gives (done (Some (file, bytes)) [])) → Told before.files after.files (HoldsPart file bytes)
       → Rose before.write_faults after.write_faults → new.bytes ≡ old.bytes → Ends plan before after old new (Err (refusal.Unwritten file))
@@ -38,7 +41,8 @@ pub data Ends {T : Type 0} (plan : Plan Answer) (before after : Stored) (old new
       → Goes before.files plan (gives answer) → after.files ≡ before.files
       → Rose old.faults new.faults → Begins text old new → Ends plan before after old new (Err refusal.Unprinted)
   showed_for_want : (text : List ℕ) (answer : Answer) → Prints text answer
-      → Goes before.files plan (gives answer) → after.files ≡ before.files → Begins text old new → Ends plan before after old new (Err refusal.NoMemory)
+      → Goes before.files plan (gives answer) → after.files ≡ before.files → Begins text old new
+      → Ends plan before after old new (Err refusal.NoMemory)
   not_enabled : (file : List ℕ) (line : ℕ) (tokens : Vec ℕ Global) (text : List ℕ)
       → Goes before.files plan (gives (refused file line tokens.items text)) → after.files ≡ before.files
       → new.bytes ≡ told_then text old.bytes → Ends plan before after old new (Err (refusal.NotEnabled file line tokens))

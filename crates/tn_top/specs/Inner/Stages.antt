@@ -10,7 +10,8 @@ use Rattle.tn_top.specs.Plans.{Answer, fault, limit, Plan, gives, stops, reads, 
 unfoldable pub Unable : {A : Type 0} → Plan A → Stored → Stored → Refusal → Type 0
 Unable plan before after (Fault file first) = Goes before.files plan (stops (fault file first))
 Unable plan before after (Limit word count) = Goes before.files plan (stops (limit word count))
-Unable {A} plan before after (Unread file) = (next : List ℕ → Plan A) × Goes before.files plan (reads file next) × (Rose before.read_faults after.read_faults ⊎ (told before.files file ≡ Some None))
+Unable {A} plan before after (Unread file) = (next : List ℕ → Plan A) × Goes before.files plan (reads file next)
+    × (Rose before.read_faults after.read_faults ⊎ (told before.files file ≡ Some None))
 Unable plan before after (Unwritten file) = ⊥
 Unable plan before after Unprinted = ⊥
 Unable plan before after (NotEnabled file line tokens) = ⊥

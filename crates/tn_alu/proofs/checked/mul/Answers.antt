@@ -12,4 +12,10 @@ returns c =
     let x_size : unsigned_abs x ≤ 0x80000000 = omega (arith, ints) in
     let y_size : unsigned_abs y ≤ 0x80000000 = omega (arith, ints) in
     let product_fits : FitsSigned w64 (x *ℤ y) = fits_signed_mul w64 x y 0x80000000 0x80000000 x_size y_size (lit< tt) in
-    c.checked_word.ensures ∙ rw (to_z-of_z w64 x x_fits, to_z-of_z w64 y y_fits, to_z-of_z w64 (x *ℤ y) product_fits, c.signed_word.ensures.value, c.signed_word-2.ensures.value)
+    c.checked_word.ensures ∙ rw (
+      to_z-of_z w64 x x_fits,
+      to_z-of_z w64 y y_fits,
+      to_z-of_z w64 (x *ℤ y) product_fits,
+      c.signed_word.ensures.value,
+      c.signed_word-2.ensures.value,
+    )

@@ -9,9 +9,11 @@ on_err_always (Err e) p = p
 pub returns-in_err-extend_from_slice-clause-err : goal.returns-in_err-extend_from_slice-clause-err
 returns-in_err-extend_from_slice-clause-err c =
     let place = rw (c.unwrap-i.ensures, c.deref.ensures.value) at c.place_of.ensures in
-    on_err_always c.from_residual.result (same_at c.args.name.now c.args.files.now.items c.unwrap-i.result c.index_mut.result.now c.extend_from_slice.new.self place c.index_mut.ensures.value c.in_err-extend_from_slice.ensures.items)
+    on_err_always c.from_residual.result (same_at c.args.name.now c.args.files.now.items c.unwrap-i.result c.index_mut.result.now
+    c.extend_from_slice.new.self place c.index_mut.ensures.value c.in_err-extend_from_slice.ensures.items)
 
 pub returns-clause-ok : goal.returns-clause-ok
 returns-clause-ok c =
     let place = rw (c.unwrap-i.ensures, c.deref.ensures.value) at c.place_of.ensures in
-    more_at c.args.name.now c.args.files.now.items c.unwrap-i.result c.index_mut.result.now c.extend_from_slice.new.self place c.index_mut.ensures.value c.args.bytes.now c.in_ok-extend_from_slice.ensures.items
+    more_at c.args.name.now c.args.files.now.items c.unwrap-i.result c.index_mut.result.now c.extend_from_slice.new.self place
+    c.index_mut.ensures.value c.args.bytes.now c.in_ok-extend_from_slice.ensures.items

@@ -18,5 +18,7 @@ returns c =
       coding = bytes;
       loads = subst (λ (items : List ℕ). LoadsAll items f (word_of e)) (sym bytes) (LoadsAll-coding f e c.ranges.e c.requires);
       length = ap length bytes ∙ length-coding f e c.ranges.e;
-      followed = λ rest. ap (λ items. loads (items ++ rest)) bytes ∙ (loads-LoadsAll (LoadsAll-coding f e c.ranges.e c.requires) rest ∙ same_found f f (word_of e) (word_of e) (length (coding f e)) (coding_length e) refl refl (length-coding f e c.ranges.e));
+      followed = λ rest. ap (λ items. loads (items ++ rest)) bytes
+          ∙ (loads-LoadsAll (LoadsAll-coding f e c.ranges.e c.requires) rest
+          ∙ same_found f f (word_of e) (word_of e) (length (coding f e)) (coding_length e) refl refl (length-coding f e c.ranges.e));
     }

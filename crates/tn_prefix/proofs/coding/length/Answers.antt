@@ -7,5 +7,6 @@ use Rattle.tn_prefix.proofs.coding.length.Goals as goal
 
 pub returns-clause-shortest : goal.returns-clause-shortest
 returns-clause-shortest c = λ bytes f loads.
-    let value : c.length.result ≡ coding_length c.args.e = c.length.ensures ∙ ap coding_length (c.new.ensures.value ∙ to_z-of_z w32 c.args.e c.ranges.e) in
+    let value : c.length.result ≡ coding_length c.args.e = c.length.ensures
+    ∙ ap coding_length (c.new.ensures.value ∙ to_z-of_z w32 c.args.e c.ranges.e) in
     omega (arith, shortest-LoadsAll c.args.e bytes f c.ranges.e loads)

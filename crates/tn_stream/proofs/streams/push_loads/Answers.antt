@@ -10,6 +10,8 @@ push_load-requires c =
 
 pub loop-segment-preserved : goal.loop-segment-preserved
 loop-segment-preserved c =
-    let more = loads_of-more c.args.segments.now c.loop-segment.segment-index c.segment-item.result c.loop-segment-test.true c.segment-item.is in
-    let joined = append_assoc c.args.bytes.now.items (loads_of (segments_of (take c.loop-segment.segment-index c.args.segments.now))) (load_of (segment_of c.segment-item.result)) in
+    let more = loads_of-more c.args.segments.now c.loop-segment.segment-index c.segment-item.result c.loop-segment-test.true
+    c.segment-item.is in
+    let joined = append_assoc c.args.bytes.now.items (loads_of (segments_of (take c.loop-segment.segment-index c.args.segments.now)))
+    (load_of (segment_of c.segment-item.result)) in
     cc c.in_ok-push_load.ensures

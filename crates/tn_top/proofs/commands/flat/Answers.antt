@@ -23,5 +23,6 @@ returns g c = λ said.
     let read = g.S.Store.stored c.read_code.new.store in
     let after = g.S.Store.stored c.write_file.new.store in
     let code = c.in_ok-code.code in
-    ends_written seen (written_from c.args.target.now (λ code. code)) (code_plan c.args.source.now) before read after said said code c.in_ok-code.ensures.staged c.args.target.now code.items c.write_file.result refl
+    ends_written seen (written_from c.args.target.now (λ code. code)) (code_plan c.args.source.now) before read after said said code
+    c.in_ok-code.ensures.staged c.args.target.now code.items c.write_file.result refl
     (rw c.deref.ensures.value at c.write_file.ensures)

@@ -24,5 +24,6 @@ returns g c = λ said.
     let read = g.S.Store.stored c.read_code.new.store in
     let after = g.S.Store.stored c.write_code_stream.new.store in
     let code = c.in_ok-code.code in
-    ends_written seen (written_from c.args.target.now (boot_stream c.args.link)) (code_plan c.args.source.now) before read after said said code c.in_ok-code.ensures.staged
+    ends_written seen (written_from c.args.target.now (boot_stream c.args.link)) (code_plan c.args.source.now) before read after said said
+    code c.in_ok-code.ensures.staged
     c.args.target.now (boot_stream c.args.link code.items) c.write_code_stream.result refl c.write_code_stream.ensures

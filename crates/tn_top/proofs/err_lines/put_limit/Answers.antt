@@ -8,4 +8,5 @@ use Rattle.tn_top.proofs.err_lines.put_limit.Goals as goal
 pub returns-clause-puts : goal.returns-clause-puts
 unfolding limit_line
 returns-clause-puts g c =
-    Puts-as (ap (λ word. codes "limit " ++ word ++ spaced (decimal c.args.count) ++ codes "\n") (c.as_bytes.ensures.value ∙ c.word.ensures)) c.put_counted.ensures.puts
+    Puts-as (ap (λ word. codes "limit " ++ word ++ spaced (decimal c.args.count) ++ codes "\n") (c.as_bytes.ensures.value
+    ∙ c.word.ensures)) c.put_counted.ensures.puts

@@ -8,7 +8,8 @@ returns-in_err-put-clause-puts g c =
 
 pub returns-in_err-put-2-clause-puts : goal.returns-in_err-put-2-clause-puts
 returns-in_err-put-2-clause-puts g c =
-    Puts-refused c.from_residual-in_err-put-2.ensures.0 (Puts-stopped (codes "\n") (Puts-joined c.in_ok-put.ensures.puts c.in_err-put-2.ensures.puts))
+    Puts-refused c.from_residual-in_err-put-2.ensures.0 (Puts-stopped (codes "\n")
+    (Puts-joined c.in_ok-put.ensures.puts c.in_err-put-2.ensures.puts))
 
 pub returns-clause-puts : goal.returns-clause-puts
 returns-clause-puts g c = Puts-joined (Puts-joined c.in_ok-put.ensures.puts c.in_ok-put-2.ensures.puts) c.put-3.ensures.puts

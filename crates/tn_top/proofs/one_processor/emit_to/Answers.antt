@@ -11,7 +11,8 @@ returns-in-Ok-clause-extends g c =
     let old = over_file g.S.Store.stored c.args.out.now in
     let new = over_file g.S.Store.stored c.collect_one.new.emit in
     record {
-      ok = grown-later c.args.name.now text old new c.requires.is_open c.requires.there (c.in-Ok.ensures.goes_on (rw c.requires.is_open refl)) c.in-Ok.ensures.emits.ok.1;
+      ok = grown-later c.args.name.now text old new c.requires.is_open c.requires.there
+          (c.in-Ok.ensures.goes_on (rw c.requires.is_open refl)) c.in-Ok.ensures.emits.ok.1;
       err = search rules;
       still_open = search rules;
       failed = search rules;
@@ -27,7 +28,8 @@ returns-in-Some-NoMemory-clause-extends g c =
     let front = c.in-Err-Out.ensures.emits.refused (ap Err c.in-Err-Out.field-0-is) in
     record {
       ok = search rules;
-      err = grown-part c.args.name.now (take front.0 text) old new c.requires.is_open c.requires.there (c.in-Err-Out.ensures.goes_on (rw c.requires.is_open refl)) text front.0 refl front.1;
+      err = grown-part c.args.name.now (take front.0 text) old new c.requires.is_open c.requires.there
+          (c.in-Err-Out.ensures.goes_on (rw c.requires.is_open refl)) text front.0 refl front.1;
       still_open = search rules;
       failed = search rules;
       count = search rules;
@@ -42,7 +44,8 @@ returns-in_default-clause-extends g c =
     let front = c.in-Err-Out.ensures.emits.refused (ap Err c.in-Err-Out.field-0-is) in
     record {
       ok = search rules;
-      err = grown-part c.args.name.now (take front.0 text) old new c.requires.is_open c.requires.there (c.in-Err-Out.ensures.goes_on (rw c.requires.is_open refl)) text front.0 refl front.1;
+      err = grown-part c.args.name.now (take front.0 text) old new c.requires.is_open c.requires.there
+          (c.in-Err-Out.ensures.goes_on (rw c.requires.is_open refl)) text front.0 refl front.1;
       still_open = search rules;
       failed = search rules;
       count = search rules;

@@ -13,7 +13,8 @@ returns-in_err-text-clause-staged g c =
     let before = g.S.Store.stored c.args.store.now in
     let after = g.S.Store.stored c.read_file.new.store in
     of-error (Staged seen (code_plan source) before after) c.from_residual.result c.in_err-text.field-0.0 c.from_residual.ensures.1
-    (staged-stopped seen seen (λ text. at_once (code_in source text)) (reads source gives) before after c.in_err-text.field-0.0 c.in_err-text.ensures.staged)
+    (staged-stopped seen seen (λ text. at_once (code_in source text)) (reads source gives) before after c.in_err-text.field-0.0
+    c.in_err-text.ensures.staged)
 
 pub returns-clause-staged : goal.returns-clause-staged
 returns-clause-staged g c =
@@ -22,5 +23,7 @@ returns-clause-staged g c =
     let before = g.S.Store.stored c.args.store.now in
     let read = g.S.Store.stored c.read_file.new.store in
     let text = c.in_ok-text.text in
-    staged-then seen seen (λ text. at_once (code_in source text)) (reads source gives) before read read text c.code_in.result c.in_ok-text.ensures.staged
-    (staged-made seen (code_in source text.items) read c.code_in.result (subst (λ t. Makes seen (code_in source t) c.code_in.result) c.deref.ensures.value c.code_in.ensures.made))
+    staged-then seen seen (λ text. at_once (code_in source text)) (reads source gives) before read read text c.code_in.result
+    c.in_ok-text.ensures.staged
+    (staged-made seen (code_in source text.items) read c.code_in.result
+    (subst (λ t. Makes seen (code_in source t) c.code_in.result) c.deref.ensures.value c.code_in.ensures.made))

@@ -8,7 +8,8 @@ use Rattle.tn_io.proofs.mem_store.MemStoreStore.write.Goals.{in-Ok, in-Err}
 pub invariant_of-self-2 : goal.invariant_of-self-2
 invariant_of-self-2 c =
     elim c.match-append.branch [
-      | in-Ok w ↦ kept-with_more c.self.inside.opened c.in-Some.name c.args.bytes.now (files_of c.self.inside.files.items) (files_of c.append.new.files.items) c.self.invariant (rw c.as_str.ensures.text at w.in-Ok.ensures.ok)
+      | in-Ok w ↦ kept-with_more c.self.inside.opened c.in-Some.name c.args.bytes.now (files_of c.self.inside.files.items)
+          (files_of c.append.new.files.items) c.self.invariant (rw c.as_str.ensures.text at w.in-Ok.ensures.ok)
       | in-Err w ↦ subst (λ fs. HasDistinctNames fs × IsHeld c.self.inside.opened fs) (sym w.in-Err.ensures.err) c.self.invariant
     ]
 
