@@ -1,0 +1,140 @@
+use crate::shown::{done, hexadecimal, refusal, word, word_of};
+use std::alloc::Global;
+use tn_mem::{CodeFree, Memory, Space, Touch};
+use tn_tables::{Case, Line, Report, Stop, byte, said};
+
+/// Where the blocks of `accesses` are copied from and to: nothing guards it.
+const SPARE: u32 = 0x8000_0400;
+
+/// Runs a case of the table of memories. Its first line says which memory it is of.
+pub fn run_case(alloc: Global, case: &Case<'_>, report: &mut Report) -> Result<(), Stop> {
+    let (first, lines) = case.lines.split_first().ok_or(Stop::BadCase)?;
+    match first.words.as_slice() {
+        ["memory"] => run_memory(alloc, case, lines, report),
+        ["guarded", from, to] => {
+            let (from, to) = (hexadecimal(from)?, hexadecimal(to)?);
+            let mut space = CodeFree::around(counted(alloc)?, from, to);
+            run_guarded(alloc, case, lines, &mut space, report)
+        }
+        _ => Err(Stop::BadCase),
+    }
+}
+
+/// A memory of 4,096 bytes, each the low byte of its address.
+fn counted(alloc: Global) -> Result<Memory, Stop> {
+    let mut bytes = Vec::new(alloc);
+    for k in 0..4096_u32 {
+        bytes.push((k % 256) as u8)?;
+    }
+    if bytes.len() != 4096 {
+        return Err(Stop::NoMemory);
+    }
+    Ok(Memory::power_up(bytes))
+}
+
+fn run_memory(
+    alloc: Global,
+    case: &Case<'_>,
+    lines: &[Line<'_>],
+    report: &mut Report,
+) -> Result<(), Stop> {
+    let mut memory = counted(alloc)?;
+    for line in lines {
+        let came = match line.words.as_slice() {
+            ["size"] => Ok(memory.size().to_string(alloc)?.into_bytes()),
+            ["copied"] => copied(alloc, &memory),
+            words => answer(alloc, &mut memory, words),
+        };
+        report.answer(alloc, case.name, line, came)?;
+    }
+    Ok(())
+}
+
+fn run_guarded(
+    alloc: Global,
+    case: &Case<'_>,
+    lines: &[Line<'_>],
+    space: &mut CodeFree,
+    report: &mut Report,
+) -> Result<(), Stop> {
+    for line in lines {
+        let came = match line.words.as_slice() {
+            ["beneath", address] => word_of(alloc, space.memory(), address),
+            words => answer(alloc, space, words),
+        };
+        report.answer(alloc, case.name, line, came)?;
+    }
+    Ok(())
+}
+
+/// How many bytes a copy has, if it is equal.
+fn copied(alloc: Global, memory: &Memory) -> Result<Vec<u8>, Stop> {
+    let copy = memory.copied().ok().ok_or(Stop::NoMemory)?;
+    if copy.bytes() == memory.bytes() {
+        Ok(copy.bytes().len().to_string(alloc)?.into_bytes())
+    } else {
+        said(alloc, "other bytes")
+    }
+}
+
+/// What a space answers to an access.
+fn answer<S: Space>(alloc: Global, space: &mut S, words: &[&str]) -> Result<Vec<u8>, Stop> {
+    match words {
+        ["byte", a] => match space.byte(hexadecimal(a)?) {
+            Ok(byte) => word(alloc, Ok(u32::from(byte))),
+            Err(touch) => said(alloc, refusal(touch)),
+        },
+        ["set-byte", a, v] => done(alloc, space.set_byte(hexadecimal(a)?, byte(v)?)),
+        ["word", a] => word_of(alloc, space, a),
+        ["set-word", a, v] => done(alloc, space.set_word(hexadecimal(a)?, hexadecimal(v)?)),
+        words => block_answer(alloc, space, words),
+    }
+}
+
+fn block_answer<S: Space>(alloc: Global, space: &mut S, words: &[&str]) -> Result<Vec<u8>, Stop> {
+    match words {
+        ["block", a, n] => done(alloc, space.block(hexadecimal(a)?, hexadecimal(n)?)),
+        ["copy", from, to, n] => {
+            let (from, to) = (hexadecimal(from)?, hexadecimal(to)?);
+            done(alloc, space.copy(from, to, hexadecimal(n)?))
+        }
+        ["fill", a, n, v] => {
+            let filled = fill(space, hexadecimal(a)?, hexadecimal(n)?, byte(v)?);
+            done(alloc, filled)
+        }
+        ["accesses", a] => accesses(alloc, space, hexadecimal(a)?),
+        _ => Err(Stop::BadCase),
+    }
+}
+
+/// Stores a byte all over a block, if that is allowed.
+fn fill<S: Space>(space: &mut S, a: u32, n: u32, byte: u8) -> Result<(), Touch> {
+    space.block(a, n)?;
+    for k in 0..n {
+        space.set_byte(a.wrapping_add(k), byte)?;
+    }
+    Ok(())
+}
+
+/// The refusals at an address: of a byte and its store, a word and its store, a block of 4 bytes,
+/// copies of 4 bytes from there and to there, and a block of 0 bytes.
+fn accesses<S: Space>(alloc: Global, space: &mut S, a: u32) -> Result<Vec<u8>, Stop> {
+    let refusals = [
+        space.byte(a).err(),
+        space.set_byte(a, 7).err(),
+        space.word(a).err(),
+        space.set_word(a, 7).err(),
+        space.block(a, 4).err(),
+        space.copy(a, SPARE, 4).err(),
+        space.copy(SPARE, a, 4).err(),
+        space.block(a, 0).err(),
+    ];
+    let mut text = String::new(alloc);
+    for found in refusals {
+        if !text.is_empty() {
+            text.push(' ')?;
+        }
+        text.push_str(found.map_or("done", refusal))?;
+    }
+    Ok(text.into_bytes())
+}
