@@ -31,7 +31,7 @@ pub fn zeros(alloc: Global) -> Result<Memory, Stop> {
 }
 
 /// Executes an instruction, where the processor runs.
-#[tactic(auto, using(tn_prefix::proofs::Instructions::coded_functions))]
+#[tactic(auto, using(tn_isa::proofs::CodedFunctions::coded_functions))]
 pub fn execute<M: Space>(cpu: &mut Cpu<M>, execution: Execution) -> Result<Outcome, Stop> {
     if cpu.life() != Life::Running {
         return Err(Stop::BadCase);

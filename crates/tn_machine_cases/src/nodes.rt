@@ -141,7 +141,7 @@ fn made_text(alloc: Global, made: Made) -> Result<Vec<u8>, Stop> {
 }
 
 /// Executes an instruction, where the node runs.
-#[tactic(auto, using(tn_prefix::proofs::Instructions::coded_functions))]
+#[tactic(auto, using(tn_isa::proofs::CodedFunctions::coded_functions))]
 fn execute<M: Space>(
     alloc: Global,
     node: &mut Node<M>,
