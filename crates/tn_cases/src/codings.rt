@@ -22,7 +22,7 @@ fn operand_of(text: &str) -> Result<i32, Stop> {
 }
 
 /// The bytes of an instruction.
-#[tactic(auto, using(tn_prefix::proofs::Instructions::coded_functions))]
+#[tactic(auto, using(tn_isa::proofs::CodedFunctions::coded_functions))]
 fn coding(alloc: Global, name: &str, operand: i32) -> Result<Vec<u8>, Stop> {
     match mnemonic_of(name) {
         Some(Mnemonic::Direct(fun)) => spelled(alloc, &encode(fun, operand)),

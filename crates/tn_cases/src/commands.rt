@@ -3,7 +3,7 @@ use std::alloc::Global;
 use std::mem;
 use tn_io::{MemOut, MemStore, Store};
 use tn_tables::{Case, Line, Report, Stop, said};
-use tn_top::{code, run};
+use tn_top::{Status, code, run};
 
 /// What commands run on: files, the writes to the output and to the error output that fail in the
 /// next command, and what was printed there and not yet looked at.
@@ -37,6 +37,7 @@ fn answer(alloc: Global, device: &mut Device, line: &Line<'_>) -> Result<Vec<u8>
         ["out"] => Ok(mem::replace(&mut device.out, Vec::new(alloc))),
         ["err"] => Ok(mem::replace(&mut device.err, Vec::new(alloc))),
         ["holds", name] => held(alloc, device.store.file(name)),
+        ["exit-code", name] => exit_code(alloc, name),
         ["out-fails", fails @ ..] => {
             device.out_fails = decimals(alloc, fails)?;
             Ok(Vec::new(alloc))
@@ -47,6 +48,23 @@ fn answer(alloc: Global, device: &mut Device, line: &Line<'_>) -> Result<Vec<u8>
         }
         _ => Err(Stop::BadCase),
     }
+}
+
+/// The exit code of a status.
+fn exit_code(alloc: Global, name: &str) -> Result<Vec<u8>, Stop> {
+    let status = match name {
+        "Done" => Status::Done,
+        "Fault" => Status::Fault,
+        "Usage" => Status::Usage,
+        "Limit" => Status::Limit,
+        "ReadFault" => Status::ReadFault,
+        "WriteFault" => Status::WriteFault,
+        "OutFault" => Status::OutFault,
+        "NoMemory" => Status::NoMemory,
+        "NotEnabled" => Status::NotEnabled,
+        _ => return Err(Stop::BadCase),
+    };
+    Ok(code(status).to_string(alloc)?.into_bytes())
 }
 
 /// Makes a file. Its line has to say so, since its bytes are no answer.

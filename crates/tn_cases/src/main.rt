@@ -13,6 +13,7 @@ mod loader;
 mod modules;
 mod operations;
 mod stores;
+mod streams;
 mod texts;
 
 use std::alloc::Global;
@@ -21,7 +22,7 @@ use tn_io::{HostOut, Out};
 use tn_tables::{Case, Line, Report, Stop, cases_of};
 
 /// The tables, in the order of what is printed.
-const TABLES: [&str; 10] = [
+const TABLES: [&str; 11] = [
     "commands",
     "stores",
     "texts",
@@ -31,6 +32,7 @@ const TABLES: [&str; 10] = [
     "codings",
     "layouts",
     "loader",
+    "streams",
     "modules",
 ];
 
@@ -112,6 +114,7 @@ fn answer(alloc: Global, table: &str, line: &Line<'_>) -> Result<Vec<u8>, Stop> 
         "operations" => operations::answer(alloc, line),
         "codings" => codings::answer(alloc, line),
         "loader" => loader::answer(alloc, line),
+        "streams" => streams::answer(alloc, line),
         _ => Err(Stop::BadCase),
     }
 }

@@ -2,9 +2,10 @@ use crate::faults::{fault_line, name_of};
 use std::alloc::Global;
 use std::str;
 use tn_tables::{Line, Stop, said};
+use tn_text::limits::NAME_LIMIT;
 use tn_text::{
-    Cause, FileName, NAME_LIMIT, Name, ReadFault, begins_number, file_name_at, is_ascii_line,
-    is_name, is_name_spelling, name_at, next_line, number, number_at, read_tokens,
+    Cause, FileName, Name, ReadFault, begins_number, file_name_at, is_ascii_line, is_name,
+    is_name_spelling, name_at, next_line, number, number_at, read_tokens,
 };
 
 /// What a line of the table of numbers, names, lines and tokens gives.
@@ -66,6 +67,7 @@ fn file_name_answer(alloc: Global, kind: &str, token: &[u8]) -> Result<Vec<u8>, 
                 None => said(alloc, "none"),
             }
         }
+        "is-file-name-at" if is_ascii_line(token) => told(alloc, file_name_at(token).is_ok()),
         "file-name-at" if is_ascii_line(token) => match file_name_at(token) {
             Ok(name) => said(alloc, name.text()),
             Err(cause) => cause_of(alloc, cause),
@@ -98,11 +100,22 @@ fn lines(alloc: Global, text: &[u8]) -> Result<Vec<u8>, Stop> {
         let Some((line, behind)) = next_line(rest) else {
             break;
         };
-        lines.extend_from_slice(line)?;
-        lines.push(b'|')?;
+        push_line(&mut lines, line)?;
         rest = behind;
     }
     Ok(lines)
+}
+
+/// Adds a line and a `|`. A carriage return in it is `<0D>`, since a table has none.
+fn push_line(lines: &mut Vec<u8>, line: &[u8]) -> Result<(), Stop> {
+    for byte in line {
+        match *byte {
+            b'\r' => lines.extend_from_slice(b"<0D>")?,
+            byte => lines.push(byte)?,
+        }
+    }
+    lines.push(b'|')?;
+    Ok(())
 }
 
 /// The tokens of line 4, each with `|` behind it.

@@ -62,7 +62,7 @@ pub admitted : (raw : RawLists) → length raw.names ≤ 64 → raw.lines < 2 ^ 
     → passes raw ≡ true → IsAdmitted raw
 admitted raw few lines short passed =
     let sized = both (list_all has_size raw.names)
-      (list_all has_links raw.wires && (are_apart raw.wires && host_fits raw.host raw.wires)) passed in
+    (list_all has_links raw.wires && (are_apart raw.wires && host_fits raw.host raw.wires)) passed in
     let linked = both (list_all has_links raw.wires) (are_apart raw.wires && host_fits raw.host raw.wires) sized.1 in
     let rest = both (are_apart raw.wires) (host_fits raw.host raw.wires) linked.1 in
     record {
