@@ -1,4 +1,5 @@
 pub mod Words
+pub mod Tests
 pub mod WordBytes
 pub mod Refusals
 pub mod Stores

@@ -2,11 +2,11 @@
 -- refused is stored, loaded or copied, and no store changes what is refused.
 use Rattle.std.proofs.Common.{◌≡◌, ℕ, ◌%◌, Option, Some, None, Result, Ok, Err, refl, ap, ◌∙◌}
 use Rattle.std.proofs.lemmas.Bool.{eqb-true}
-use Rattle.std.specs.Prelude.{IsOk, ◌==◌, if◌then◌else◌, Bool, true, false}
+use Rattle.std.specs.Prelude.{⊤, IsOk, ◌==◌, if◌then◌else◌, Bool, true, false}
 use Rattle.std.specs.Result.{result_err, result_unwrap_or}
 use Rattle.tn_mem.specs.declared.touches.Touch.{Touch}
 use Rattle.tn_mem.specs.declared.touches.Touch.TheVariants.{Outside}
-use Rattle.tn_mem.specs.Spaces.{Access, SameExtents, IsSpace}
+use Rattle.tn_mem.specs.Spaces.{Access, Leaves, SameExtents, IsSpace}
 use Rattle.tn_mem.proofs.SpaceLemmas.{allowed, extents-none}
 use Rattle.tn_cpu.specs.Queues.{storable, loadable, block_refusal, stored, copied, word_at}
 
@@ -63,6 +63,13 @@ kept access m (Err touch) keeps = extents-none access m
 pub extents-stored : {M : Type 0} (access : Access M) (m : M) (a word : ℕ) → IsSpace access → SameExtents access m (stored access m a word)
 unfolding stored
 extents-stored access m a word laws = kept access m (access.set_word m a word) (λ n e. laws.set_word_keeps m n a word e)
+
+-- a call on a space leaves them so, whatever it answers
+pub extents-left :
+    {M : Type 0} (access : Access M) (result : Result ⊤ Touch) (made : Result M Touch) (old new : M) → Leaves result made old new
+    → ((n : M) → made ≡ Ok n → SameExtents access old n) → SameExtents access old new
+extents-left access (Ok u) made old new h keeps = keeps new h
+extents-left access (Err touch) made old new h keeps = rw (h.1) (extents-none access old)
 
 pub extents-copied :
     {M : Type 0} (access : Access M) (m : M) (from to n : ℕ) → IsSpace access → SameExtents access m (copied access m from to n)

@@ -1,4 +1,6 @@
-ghost use Rattle.std.specs.Prelude.{◌≡◌, ◌<◌};
+ghost use Rattle.std.specs.Prelude.{◌≡◌, ◌<◌, None};
+ghost use Rattle.tn_mem.specs.Spaces.{SameExtents};
+ghost use Rattle.tn_cpu.specs.Queues.{storable};
 ghost use Rattle.tn_cpu.specs.Channels.{first_link, aligned_channel, channel_at, is_set, is_open, opens, linked, waiting, waits, exchanged, bytes_refusal, other_way, partner_refusal, met, internal, is_outside, on_channel, transfer_row};
 
 use crate::outcomes::{Outcome, Transfer, Why};
@@ -129,6 +131,7 @@ impl<M: Space> Cpu<M> {
 
     /// The current process waits on a channel, and the next process runs.
     fn wait(&mut self, turn: Turn, channel: u32, pointer: u32) -> Outcome
+        requires { storable M.access self.old.memory channel ≡ None }
         ensures { waits M.access turn channel pointer self.old ≡ record { state = self.new; outcome = result } }
     {
         let workspace = first_refusal(
@@ -156,6 +159,7 @@ impl<M: Space> Cpu<M> {
         pointer: u32,
         process: u32,
     ) -> Outcome
+        requires { storable M.access self.old.memory channel ≡ None }
         ensures { met M.access way turn count channel pointer process self.old ≡ record { state = self.new; outcome = result } }
     {
         let own = first_refusal(
@@ -195,7 +199,10 @@ impl<M: Space> Cpu<M> {
 
     /// Copies towards the inputting process.
     fn exchange(&mut self, way: Way, count: u32, pointer: u32, partner: u32)
-        ensures { self.new ≡ record self.old { memory = exchanged M.access way count pointer partner self.old.memory } }
+        requires own { bytes_refusal M.access way self.old.memory pointer count ≡ None }
+        requires partner { bytes_refusal M.access (other_way way) self.old.memory partner count ≡ None }
+        ensures extents { SameExtents M.access self.old.memory self.new.memory }
+        ensures value { self.new ≡ record self.old { memory = exchanged M.access way count pointer partner self.old.memory } }
     {
         match way {
             Way::Input => self.copy(partner, pointer, count),

@@ -1,5 +1,5 @@
-ghost use Rattle.std.specs.Prelude.{◌≡◌};
-ghost use Rattle.tn_mem.specs.Spaces.{first_refusal};
+ghost use Rattle.std.specs.Prelude.{◌≡◌, None, ◌==◌, if◌then◌else◌};
+ghost use Rattle.tn_mem.specs.Spaces.{SameExtents, first_refusal};
 ghost use Rattle.tn_cpu.specs.States.{below, words_above};
 ghost use Rattle.tn_cpu.specs.Queues.{storable, loadable, block_refusal, source_refusal, stored, copied, word_at, is_waiting, enqueue_refusal, enqueued, next_refusal, next, saved, slice_refusal, ran_or_sliced, gave_way, resumed, woken, woken_behind, woken_idle};
 
@@ -49,7 +49,9 @@ impl<M: Space> Cpu<M> {
     /// Stores a word that was tested.
     #[tactic(auto, unfolding(crate::specs::Queues::stored))]
     pub(crate) fn store(&mut self, a: u32, word: u32)
-        ensures { self.new ≡ record self.old { memory = stored M.access self.old.memory a word } }
+        requires { storable M.access self.old.memory a ≡ None }
+        ensures value { self.new ≡ record self.old { memory = stored M.access self.old.memory a word } }
+        ensures extents { SameExtents M.access self.old.memory self.new.memory }
     {
         let _tested = self.memory.set_word(a, word);
     }
@@ -57,7 +59,10 @@ impl<M: Space> Cpu<M> {
     /// Copies a block that was tested.
     #[tactic(auto, unfolding(crate::specs::Queues::copied))]
     pub(crate) fn copy(&mut self, from: u32, to: u32, n: u32)
-        ensures { self.new ≡ record self.old { memory = copied M.access self.old.memory from to n } }
+        requires source { source_refusal M.access self.old.memory from n ≡ None }
+        requires target { block_refusal M.access self.old.memory to n ≡ None }
+        ensures extents { SameExtents M.access self.old.memory self.new.memory }
+        ensures value { self.new ≡ record self.old { memory = copied M.access self.old.memory from to n } }
     {
         let _tested = self.memory.copy(from, to, n);
     }
@@ -65,6 +70,7 @@ impl<M: Space> Cpu<M> {
     /// The word at an address that was tested.
     #[tactic(auto, unfolding(crate::specs::Queues::word_at))]
     pub(crate) fn word_at(&self, a: u32) -> u32
+        requires { loadable M.access self.now.memory a ≡ None }
         ensures { result ≡ word_at M.access self.now.memory a }
     {
         self.memory.word(a).unwrap_or(0)
@@ -72,7 +78,9 @@ impl<M: Space> Cpu<M> {
 
     /// Saves an instruction pointer in word -1 of the current process.
     pub(crate) fn save(&mut self, iptr: u32)
-        ensures { self.new ≡ saved M.access iptr self.old }
+        requires { storable M.access self.old.memory (below self.old.wptr 4) ≡ None }
+        ensures value { self.new ≡ saved M.access iptr self.old }
+        ensures extents { SameExtents M.access self.old.memory self.new.memory }
     {
         self.store(below(self.wptr, 4), iptr);
     }
@@ -91,7 +99,9 @@ impl<M: Space> Cpu<M> {
     /// Puts a process behind the back of the queue.
     #[tactic(auto, unfolding(crate::specs::Queues::enqueued))]
     pub(crate) fn enqueue(&mut self, process: u32)
-        ensures { self.new ≡ enqueued M.access process self.old }
+        requires { enqueue_refusal M.access self.old.memory self.old.front self.old.back ≡ None }
+        ensures value { self.new ≡ enqueued M.access process self.old }
+        ensures extents { SameExtents M.access self.old.memory self.new.memory }
     {
         match self.front {
             Reg::Undefined => {}
@@ -128,6 +138,7 @@ impl<M: Space> Cpu<M> {
     /// Runs the next process of the queue, or becomes idle.
     #[tactic(auto, unfolding(crate::specs::Queues::next))]
     pub(crate) fn next(&mut self)
+        requires { next_refusal M.access self.old.memory self.old.front self.old.back ≡ None }
         ensures { self.new ≡ next M.access self.old }
     {
         match self.front {
@@ -145,6 +156,7 @@ impl<M: Space> Cpu<M> {
 
     /// Runs the process at the front of the queue.
     fn resume(&mut self, front: u32)
+        requires { first_refusal (loadable M.access self.old.memory (below front 4)) (if front == self.old.back then None else loadable M.access self.old.memory (below front 8)) ≡ None }
         ensures { self.new ≡ resumed M.access front self.old }
     {
         self.clear();
@@ -161,6 +173,7 @@ impl<M: Space> Cpu<M> {
 
     /// Ends an instruction after which the next process runs.
     pub(crate) fn give_way(&mut self) -> Outcome
+        requires { next_refusal M.access self.old.memory self.old.front self.old.back ≡ None }
         ensures { gave_way M.access self.old ≡ record { state = self.new; outcome = result } }
     {
         self.next();
@@ -192,6 +205,7 @@ impl<M: Space> Cpu<M> {
     /// Ends an instruction that goes on at an address, where another process may take its turn.
     #[tactic(auto, unfolding(crate::specs::Queues::timesliced))]
     pub(crate) fn go_on_or_slice(&mut self, slice: bool, iptr: u32) -> Outcome
+        requires { slice_refusal M.access slice self.old ≡ None }
         ensures { ran_or_sliced M.access slice iptr self.old ≡ record { state = self.new; outcome = result } }
     {
         let outcome = self.go_on(iptr);

@@ -1,6 +1,7 @@
-ghost use Rattle.std.specs.Prelude.{◌≡◌};
+ghost use Rattle.std.specs.Prelude.{◌≡◌, None};
+ghost use Rattle.tn_mem.specs.Spaces.{SameExtents};
 ghost use Rattle.tn_cpu.specs.States.{below, words_above, word_or_0};
-ghost use Rattle.tn_cpu.specs.Queues.{stored};
+ghost use Rattle.tn_cpu.specs.Queues.{storable, stored, word_at};
 ghost use Rattle.tn_cpu.specs.Rows.{frame_refusal, frame_stored, call_row, startp_row, endp_last, endp_other, endp_row, runp_row, stopp_row, is_loop_taken, loop_stored, loop_refusal, loop_end, lend_row, move_row};
 
 use crate::outcomes::{Outcome, Why};
@@ -44,6 +45,7 @@ impl<M: Space> Cpu<M> {
 
     /// Stores an address and the three registers. An undefined register is stored as 0.
     fn store_frame(&mut self, w: u32, following: u32)
+        requires { frame_refusal M.access self.old.memory w ≡ None }
         ensures { self.new ≡ record self.old { memory = frame_stored M.access w following self.old.a self.old.b self.old.c self.old.memory } }
     {
         self.store(w, following);
@@ -92,6 +94,7 @@ impl<M: Space> Cpu<M> {
 
     /// `endp` of the last process.
     fn end_last(&mut self, w: u32, count: u32) -> Outcome
+        requires { storable M.access self.old.memory (words_above w 1) ≡ None }
         ensures { endp_last M.access w count self.old ≡ record { state = self.new; outcome = result } }
     {
         if let Some(touch) = self.loadable(w) {
@@ -106,6 +109,7 @@ impl<M: Space> Cpu<M> {
 
     /// `endp` of a process that isn't the last.
     fn end_other(&mut self, w: u32, count: u32) -> Outcome
+        requires { storable M.access self.old.memory (words_above w 1) ≡ None }
         ensures { endp_other M.access w count self.old ≡ record { state = self.new; outcome = result } }
     {
         let Reg::Word(_) = self.front else {
@@ -185,7 +189,10 @@ impl<M: Space> Cpu<M> {
 
     /// Stores the count of a loop, and its index where it goes on.
     fn store_loop(&mut self, w: u32, count: u32)
-        ensures { self.new ≡ record self.old { memory = loop_stored M.access w count self.old.memory } }
+        requires count { count ≡ word_at M.access self.old.memory (words_above w 1) }
+        requires tested { loop_refusal M.access w self.old.memory ≡ None }
+        ensures extents { SameExtents M.access self.old.memory self.new.memory }
+        ensures value { self.new ≡ record self.old { memory = loop_stored M.access w count self.old.memory } }
     {
         if is_loop_taken(count) {
             let index = self.word_at(w);
@@ -198,7 +205,9 @@ impl<M: Space> Cpu<M> {
 
     /// Stores a count that falls by 1, in the word after an address.
     fn lower_count(&mut self, w: u32, count: u32)
-        ensures { self.new ≡ record self.old { memory = stored M.access self.old.memory (words_above w 1) (below count 1) } }
+        requires { storable M.access self.old.memory (words_above w 1) ≡ None }
+        ensures extents { SameExtents M.access self.old.memory self.new.memory }
+        ensures value { self.new ≡ record self.old { memory = stored M.access self.old.memory (words_above w 1) (below count 1) } }
     {
         self.store(words_above(w, 1), below(count, 1));
     }
