@@ -7,3 +7,5 @@ pub mod TurnLaws
 pub mod Ends
 pub mod Independence
 pub mod Placed
+pub mod FollowingRefusals
+pub mod Followings

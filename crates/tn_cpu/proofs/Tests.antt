@@ -10,7 +10,8 @@ use Rattle.tn_word.specs.Words.{not_process}
 use Rattle.tn_cpu.specs.declared.registers.Reg.{Reg}
 use Rattle.tn_cpu.specs.declared.registers.Reg.TheVariants.{Undefined, Word}
 use Rattle.tn_cpu.specs.States.{State, below, words_above}
-use Rattle.tn_cpu.specs.Queues.{or_then, is_waiting, enqueue_refusal, enqueued_behind, enqueued, next_refusal, slice_refusal, storable, loadable, stored, word_at}
+use Rattle.tn_cpu.specs.Queues.{or_then, is_waiting, enqueued_behind, enqueued}
+use Rattle.tn_cpu.specs.Queues.{resume_refusal, enqueue_refusal, next_refusal, slice_refusal, storable, loadable, stored, word_at}
 use Rattle.tn_cpu.specs.Rows.{is_loop_taken, loop_refusal}
 use Rattle.tn_cpu.proofs.Words.{storable-after, loadable-after, extents-stored}
 
@@ -62,7 +63,7 @@ module _ {M : Type 0} (access : Access M) (m : M) where
 
   pub next-loadable :
       (front back : ℕ) → front ≢ not_process → next_refusal access m (Word front) back ≡ None
-      → first_refusal (loadable access m (below front 4)) (if front == back then None else loadable access m (below front 8)) ≡ None
+      → resume_refusal access m front back ≡ None
   unfolding next_refusal
   next-loadable front back some e = otherwise (front == not_process) _ _ (ne_eqb front not_process some) e
 
@@ -83,12 +84,7 @@ module _ {M : Type 0} (access : Access M) (old new : M) (same : SameExtents acce
   unfolding next_refusal
   next-kept Undefined back e = refl
   next-kept (Word front) back e =
-      ap (λ (r : Option Touch). if front == not_process then None else first_refusal r (if front == back then None else loadable access new (below front 8)))
-      (loadable-after access old new (below front 4) same)
-      ∙ (ap
-      (λ (r : Option Touch). if front == not_process then None else first_refusal (loadable access old (below front 4)) (if front == back then None else r))
-      (loadable-after access old new (below front 8) same)
-      ∙ e)
+      rw (loadable-after access old new (below front 4) same, loadable-after access old new (below front 8) same) e
 
   slice-kept :
       (front : Reg) (back wptr : ℕ)
@@ -139,7 +135,9 @@ slice-tests access slice s waits e =
     record { saved = first-allowed _ _ all; enqueued = first-allowed _ _ rest; next = second-allowed _ _ rest }
 
 -- what the test of a loop says: its count may be loaded and stored, and where it goes on its index too
-pub loop-count : {M : Type 0} (access : Access M) (w : ℕ) (m : M) → loop_refusal access w m ≡ None → storable access m (words_above w 1) ≡ None
+pub loop-count :
+    {M : Type 0} (access : Access M) (w : ℕ) (m : M)
+    → loop_refusal access w m ≡ None → storable access m (words_above w 1) ≡ None
 loop-count access w m e = begun-allowed _ _ e
 
 pub loop-index :
@@ -150,11 +148,14 @@ loop-index access w count m is taken e =
 
 -- ---- after a step of a row that changed only the memory, where it refuses what it did
 
-module _ {M : Type 0} (access : Access M) (m : M) (old new : State M) (is : new ≡ record old { memory = m }) (same : SameExtents access old.memory new.memory) where
+module _ {M : Type 0} (access : Access M) (m : M) (old new : State M) (is : new ≡ record old { memory = m })
+    (same : SameExtents access old.memory new.memory) where
   kept : SameExtents access old.memory m
   kept = subst (λ (u : State M). SameExtents access old.memory u.memory) is same
 
-  pub enqueue-after : enqueue_refusal access old.memory old.front old.back ≡ None → enqueue_refusal access new.memory new.front new.back ≡ None
+  pub enqueue-after :
+      enqueue_refusal access old.memory old.front old.back ≡ None
+      → enqueue_refusal access new.memory new.front new.back ≡ None
   enqueue-after e =
       subst (λ (u : State M). enqueue_refusal access u.memory u.front u.back ≡ None) (sym is)
       (enqueue-kept access old.memory m kept old.front old.back e)

@@ -1,7 +1,9 @@
-ghost use Rattle.std.specs.Prelude.{◌≡◌, None, ◌==◌, if◌then◌else◌};
+ghost use Rattle.std.specs.Prelude.{◌≡◌, None};
 ghost use Rattle.tn_mem.specs.Spaces.{SameExtents, first_refusal};
 ghost use Rattle.tn_cpu.specs.States.{below, words_above};
-ghost use Rattle.tn_cpu.specs.Queues.{storable, loadable, block_refusal, source_refusal, stored, copied, word_at, is_waiting, enqueue_refusal, enqueued, next_refusal, next, saved, slice_refusal, ran_or_sliced, gave_way, resumed, woken, woken_behind, woken_idle};
+ghost use Rattle.tn_cpu.specs.Queues.{storable, loadable, block_refusal, source_refusal, stored, copied, word_at, is_waiting};
+ghost use Rattle.tn_cpu.specs.Queues.{enqueue_refusal, enqueued, resume_refusal, next_refusal, next, saved, slice_refusal, ran_or_sliced};
+ghost use Rattle.tn_cpu.specs.Queues.{gave_way, resumed, woken, woken_behind, woken_idle};
 
 use crate::outcomes::{Life, Outcome, Why};
 use crate::processors::Cpu;
@@ -82,7 +84,7 @@ impl<M: Space> Cpu<M> {
         ensures value { self.new ≡ saved M.access iptr self.old }
         ensures extents { SameExtents M.access self.old.memory self.new.memory }
     {
-        self.store(below(self.wptr, 4), iptr);
+        self.store(below(self.registers.wptr, 4), iptr);
     }
 
     /// The refusal of what `enqueue` stores.
@@ -90,9 +92,9 @@ impl<M: Space> Cpu<M> {
     pub(crate) fn enqueue_refusal(&self) -> Option<Touch>
         ensures { result ≡ enqueue_refusal M.access self.now.memory self.now.front self.now.back }
     {
-        match self.front {
+        match self.registers.front {
             Reg::Undefined | Reg::Word(NOT_PROCESS) => None,
-            Reg::Word(_) => self.storable(below(self.back, 8)),
+            Reg::Word(_) => self.storable(below(self.registers.back, 8)),
         }
     }
 
@@ -103,15 +105,15 @@ impl<M: Space> Cpu<M> {
         ensures value { self.new ≡ enqueued M.access process self.old }
         ensures extents { SameExtents M.access self.old.memory self.new.memory }
     {
-        match self.front {
+        match self.registers.front {
             Reg::Undefined => {}
             Reg::Word(NOT_PROCESS) => {
-                self.front = Reg::Word(process);
-                self.back = process;
+                self.registers.front = Reg::Word(process);
+                self.registers.back = process;
             }
             Reg::Word(_) => {
-                self.store(below(self.back, 8), process);
-                self.back = process;
+                self.store(below(self.registers.back, 8), process);
+                self.registers.back = process;
             }
         }
     }
@@ -121,7 +123,7 @@ impl<M: Space> Cpu<M> {
     pub(crate) fn next_refusal(&self, back: u32) -> Option<Touch>
         ensures { result ≡ next_refusal M.access self.now.memory self.now.front back }
     {
-        let Reg::Word(front) = self.front else {
+        let Reg::Word(front) = self.registers.front else {
             return None;
         };
         if front == NOT_PROCESS {
@@ -141,13 +143,13 @@ impl<M: Space> Cpu<M> {
         requires { next_refusal M.access self.old.memory self.old.front self.old.back ≡ None }
         ensures { self.new ≡ next M.access self.old }
     {
-        match self.front {
+        match self.registers.front {
             Reg::Undefined => {}
             Reg::Word(NOT_PROCESS) => {
                 self.clear();
-                self.oreg = 0;
-                self.iptr = 0;
-                self.wptr = 0;
+                self.registers.oreg = 0;
+                self.registers.iptr = 0;
+                self.registers.wptr = 0;
                 self.life = Life::Idle;
             }
             Reg::Word(front) => self.resume(front),
@@ -156,19 +158,19 @@ impl<M: Space> Cpu<M> {
 
     /// Runs the process at the front of the queue.
     fn resume(&mut self, front: u32)
-        requires { first_refusal (loadable M.access self.old.memory (below front 4)) (if front == self.old.back then None else loadable M.access self.old.memory (below front 8)) ≡ None }
+        requires { resume_refusal M.access self.old.memory front self.old.back ≡ None }
         ensures { self.new ≡ resumed M.access front self.old }
     {
         self.clear();
-        self.oreg = 0;
-        self.iptr = self.word_at(below(front, 4));
-        self.wptr = front;
-        let next = if front == self.back {
+        self.registers.oreg = 0;
+        self.registers.iptr = self.word_at(below(front, 4));
+        self.registers.wptr = front;
+        let next = if front == self.registers.back {
             NOT_PROCESS
         } else {
             self.word_at(below(front, 8))
         };
-        self.front = Reg::Word(next);
+        self.registers.front = Reg::Word(next);
     }
 
     /// Ends an instruction after which the next process runs.
@@ -184,7 +186,7 @@ impl<M: Space> Cpu<M> {
     fn is_waiting(&self) -> bool
         ensures { result ≡ is_waiting self.now.front }
     {
-        match self.front {
+        match self.registers.front {
             Reg::Undefined => false,
             Reg::Word(front) => front != NOT_PROCESS,
         }
@@ -198,8 +200,11 @@ impl<M: Space> Cpu<M> {
         if !(self.is_waiting() && slice) {
             return None;
         }
-        let queue = first_refusal(self.enqueue_refusal(), self.next_refusal(self.wptr));
-        first_refusal(self.storable(below(self.wptr, 4)), queue)
+        let queue = first_refusal(
+            self.enqueue_refusal(),
+            self.next_refusal(self.registers.wptr),
+        );
+        first_refusal(self.storable(below(self.registers.wptr, 4)), queue)
     }
 
     /// Ends an instruction that goes on at an address, where another process may take its turn.
@@ -211,7 +216,7 @@ impl<M: Space> Cpu<M> {
         let outcome = self.go_on(iptr);
         if self.is_waiting() && slice {
             self.save(iptr);
-            self.enqueue(self.wptr);
+            self.enqueue(self.registers.wptr);
             self.next();
         }
         outcome
@@ -235,7 +240,7 @@ impl<M: Space> Cpu<M> {
     fn wake_running(&mut self, process: u32)
         ensures { self.new ≡ woken_behind M.access self.old.front process self.old }
     {
-        if let Reg::Undefined = self.front {
+        if let Reg::Undefined = self.registers.front {
             self.stop(Why::Undefined);
             return;
         }
@@ -256,8 +261,8 @@ impl<M: Space> Cpu<M> {
                 self.refuse(touch);
             }
             None => {
-                self.iptr = self.word_at(below(process, 4));
-                self.wptr = process;
+                self.registers.iptr = self.word_at(below(process, 4));
+                self.registers.wptr = process;
                 self.life = Life::Running;
             }
         }

@@ -24,9 +24,11 @@ enqueue-requires g c =
     let at : goes_on c.args.iptr now ≡ c.go_on-outcome.new.self = ap (λ (e : Ended _). e.state) c.go_on-outcome.ensures in
     let waits : is_waiting now.front ≡ true = ap (λ (u : State _). is_waiting u.front) at ∙ sym (c.if-is_waiting.ensures) in
     let tests = slice-tests access c.args.slice now (and_from _ _ waits c.if-slice.true) c.requires in
-    let after : saved access c.args.iptr (goes_on c.args.iptr now) ≡ c.save.new.self = ap (saved access c.args.iptr) at ∙ sym c.save.ensures.value in
+    let after : saved access c.args.iptr (goes_on c.args.iptr now) ≡ c.save.new.self = ap (saved access c.args.iptr) at
+    ∙ sym c.save.ensures.value in
     subst (λ (u : State _). enqueue_refusal access u.memory u.front u.back ≡ None) after
-    (enqueue-kept access now.memory _ (extents-stored access now.memory (below now.wptr 4) c.args.iptr g.met.M.Space.lawful) now.front now.back tests.enqueued)
+    (enqueue-kept access now.memory _
+    (extents-stored access now.memory (below now.wptr 4) c.args.iptr g.met.M.Space.lawful) now.front now.back tests.enqueued)
 
 pub next-requires : goal.next-requires
 next-requires g c =
@@ -36,10 +38,12 @@ next-requires g c =
     let at : goes_on c.args.iptr now ≡ c.go_on-outcome.new.self = ap (λ (e : Ended _). e.state) c.go_on-outcome.ensures in
     let waits : is_waiting now.front ≡ true = ap (λ (u : State _). is_waiting u.front) at ∙ sym (c.if-is_waiting.ensures) in
     let tests = slice-tests access c.args.slice now (and_from _ _ waits c.if-slice.true) c.requires in
-    let after : saved access c.args.iptr (goes_on c.args.iptr now) ≡ c.save.new.self = ap (saved access c.args.iptr) at ∙ sym c.save.ensures.value in
-    let process : c.enqueue.inside.wptr ≡ now.wptr = ap (λ (u : State _). u.wptr) (c.enqueue.view_is ∙ sym after) in
+    let after : saved access c.args.iptr (goes_on c.args.iptr now) ≡ c.save.new.self = ap (saved access c.args.iptr) at
+    ∙ sym c.save.ensures.value in
+    let process : c.enqueue.inside.registers.wptr ≡ now.wptr = ap (λ (u : State _). u.wptr) (c.enqueue.view_is ∙ sym after) in
     let queued : enqueued access now.wptr (saved access c.args.iptr (goes_on c.args.iptr now)) ≡ c.enqueue-then-slice.new.self =
-    ap (enqueued access now.wptr) after ∙ (ap (λ (p : ℕ). enqueued access p c.save.new.self) (sym process) ∙ sym c.enqueue-then-slice.ensures.value) in
+    ap (enqueued access now.wptr) after ∙
+    (ap (λ (p : ℕ). enqueued access p c.save.new.self) (sym process) ∙ sym c.enqueue-then-slice.ensures.value) in
     subst (λ (u : State _). next_refusal access u.memory u.front u.back ≡ None) queued
     (next-enqueued access now.wptr (saved access c.args.iptr (goes_on c.args.iptr now)) laws waits
     (next-kept access now.memory _ (extents-stored access now.memory (below now.wptr 4) c.args.iptr laws) now.front now.wptr tests.next))

@@ -29,7 +29,8 @@ give_way-requires g c =
     let now = c.args.self.now in
     let tested : next_refusal g.M.Space.access now.memory now.front now.back ≡ None =
     subst (λ (u : State _). next_refusal g.M.Space.access now.memory now.front u.back ≡ None) c.self.view_is
-    (sym c.next_refusal.ensures ∙ second-allowed _ _ (sym c.first_refusal-workspace.ensures ∙ second-allowed _ _ (sym c.in_default.ensures))) in
+    (sym c.next_refusal.ensures ∙ second-allowed _ _
+    (sym c.first_refusal-workspace.ensures ∙ second-allowed _ _ (sym c.in_default.ensures))) in
     next-after access _ c.store-2.new.self c.store-4.new.self c.store-4.ensures.value c.store-4.ensures.extents
     (next-after access _ c.save.new.self c.store-2.new.self c.store-2.ensures.value c.store-2.ensures.extents
     (next-after access _ now c.save.new.self c.save.ensures.value c.save.ensures.extents
