@@ -27,7 +27,7 @@ use Rattle.tn_cpu.specs.Steps.{executed, execute_byte, step}
 use Rattle.tn_cpu.specs.Codes.{changes_nothing, StopsAlone}
 use Rattle.tn_cpu.specs.TurnEnds.{IsOpening, ByOutcome, EndsTurn}
 use Rattle.tn_cpu.specs.OutcomeLaws.{OpensLink, IsNotStray}
-use Rattle.tn_cpu.proofs.Refusals.{IsOutside, any_refusal, outside_refusals}
+use Rattle.tn_cpu.proofs.Refusals.{Answers, IsOutside, any_refusal, outside_refusals}
 use Rattle.tn_cpu.proofs.Stores.{Stores, stores-stored, stores-next, stores-timesliced, extents-stores}
 use Rattle.tn_cpu.proofs.Stores.Stores.{no_store}
 use Rattle.tn_cpu.proofs.TurnLaws.{TurnLaw, effect-law}
@@ -165,6 +165,10 @@ module _ {M : Type 0} (access : Access M) (t : Turn) (s : State M) where
       effect-law access (λ touch. ⊤) (any_refusal access) t s (λ (ended : Ended M). ended.outcome ≢ Prefix) never-prefix fun e
 
 -- a memory with no guarded region refuses no access for one
+why-not_code : (touch : Touch) → touch ≡ Outside → Stopped (why_of touch) ≢ Stopped WhyCode
+why-not_code Outside kind e = cc
+why-not_code Code kind e = cc
+
 module _ (t : Turn) (s : State (List ℕ)) where
   never-code : TurnLaw plain_access IsOutside t s (λ (ended : Ended (List ℕ)). ended.outcome ≢ Stopped WhyCode)
   never-code =
@@ -180,10 +184,6 @@ module _ (t : Turn) (s : State (List ℕ)) where
         opened = λ way front transfer is opening. opens-not_code way transfer;
       }
     where
-      why-not_code : (touch : Touch) → touch ≡ Outside → Stopped (why_of touch) ≢ Stopped WhyCode
-      why-not_code Outside kind e = cc
-      why-not_code Code kind e = cc
-
       opens-not_code : (way : Way) (transfer : Transfer) → opens way transfer ≢ Stopped WhyCode
       opens-not_code Input transfer e = cc
       opens-not_code Output transfer e = cc
@@ -284,3 +284,24 @@ module _ {M : Type 0} (access : Access M) (busy : ℕ) (slice : Bool) (clock : �
 
   pub step-stops : StopsAlone s (step access busy slice clock s)
   step-stops = tells-stops access busy s _ _ step-tells.outcome
+
+-- over a memory with no guarded region no step stops for one
+module _ (busy : ℕ) (slice : Bool) (clock : ℕ) (s : State (List ℕ)) where
+  executed-not_code :
+      (is_one : Bool) (byte : ℕ) → (executed plain_access is_one byte busy slice clock s).outcome ≢ Stopped WhyCode
+  executed-not_code true byte = λ e. cc
+  executed-not_code false byte = effect-not_code _ s (function_of byte) (loaded s.oreg byte)
+
+  pub execute_byte-not_code : (byte : ℕ) → (execute_byte plain_access byte busy slice clock s).outcome ≢ Stopped WhyCode
+  unfolding execute_byte
+  execute_byte-not_code byte = executed-not_code (is_prefix (function_of byte)) byte
+
+  pub step-not_code : (step plain_access busy slice clock s).outcome ≢ Stopped WhyCode
+  unfolding step
+  step-not_code = by_answer (plain_access.byte s.memory s.iptr) (outside_refusals.byte s.memory s.iptr)
+    where
+      by_answer :
+          (r : Result ℕ Touch) → Answers IsOutside r
+          → (with_answer r s (λ byte. execute_byte plain_access byte busy slice clock s)).outcome ≢ Stopped WhyCode
+      by_answer (Ok byte) h = execute_byte-not_code byte
+      by_answer (Err touch) h = why-not_code touch h

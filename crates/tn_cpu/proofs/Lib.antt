@@ -1,4 +1,5 @@
 pub mod Words
+pub mod Tests
 pub mod WordBytes
 pub mod Refusals
 pub mod Stores
@@ -6,3 +7,5 @@ pub mod TurnLaws
 pub mod Ends
 pub mod Independence
 pub mod Placed
+pub mod FollowingRefusals
+pub mod Followings

@@ -31,6 +31,7 @@ use Rattle.tn_cpu.specs.TurnEnds.{IsOpening}
 use Rattle.tn_cpu.proofs.Refusals.{Answers, Refuses, AllRefusals, byte_answers, set_byte_answers, word_answers, set_word_answers}
 use Rattle.tn_cpu.proofs.Refusals.{copy_answers, both, storable_refuses, loadable_refuses, bytes_refuse, enqueue_refuses}
 use Rattle.tn_cpu.proofs.Refusals.{next_refuses, slice_refuses, loop_refuses, partner_refuses}
+use Rattle.tn_cpu.proofs.Tests.{first-allowed}
 use Rattle.tn_cpu.proofs.Stores.{Stores, byte-set, word-set, block-copied, stores-stored, stores-either}
 use Rattle.tn_cpu.proofs.Stores.{stores-exchanged, stores-enqueued}
 use Rattle.tn_cpu.proofs.Stores.Stores.{no_store}
@@ -84,14 +85,6 @@ either_false false is_busy none e = e
 positive : (count : ℕ) (is_busy : Bool) → (count == 0 || is_busy) ≡ false → (0 < count) × (is_busy ≡ false)
 positive zero is_busy e = cc
 positive (suc count) is_busy e = (omega arith, either_false (suc count == 0) is_busy (grind (arith, nat_tests)) e)
-
--- where two accesses together are not refused, the first is not
-first-none : (one other : Option Touch) → first_refusal one other ≡ None → one ≡ None
-first-none None other e = refl
-first-none (Some Outside) other e = cc
-first-none (Some Code) (Some Outside) e = cc
-first-none (Some Code) (Some Code) e = cc
-first-none (Some Code) None e = cc
 
 ruleset kinds = (
   byte_answers,
@@ -159,7 +152,7 @@ module _ {M : Type 0} (access : Access M) (Kind : Touch → Type 0) (refusals : 
       (next_refuses access Kind refusals s.memory s.front s.back))) (λ none.
       let shut = positive count (is_open way link t.busy) some in
       law.opened way front (record { link = link; pointer = pointer; count = count; process = s.wptr }) is
-      (record { link = in_range; shut = shut.1; count = shut.0; block = first-none _ _ none; process = refl })))
+      (record { link = in_range; shut = shut.1; count = shut.0; block = first-allowed _ _ none; process = refl })))
 
   on : (way : Way) (count channel pointer : ℕ) (kind : Channel) → InRange kind → Law (on_channel access way t count channel pointer kind s)
   on way count channel pointer NoChannel in_range = law.outside

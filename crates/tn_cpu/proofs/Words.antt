@@ -2,13 +2,13 @@
 -- refused is stored, loaded or copied, and no store changes what is refused.
 use Rattle.std.proofs.Common.{◌≡◌, ℕ, ◌%◌, Option, Some, None, Result, Ok, Err, refl, ap, ◌∙◌}
 use Rattle.std.proofs.lemmas.Bool.{eqb-true}
-use Rattle.std.specs.Prelude.{IsOk, ◌==◌, if◌then◌else◌, Bool, true, false}
+use Rattle.std.specs.Prelude.{⊤, IsOk, ◌==◌, if◌then◌else◌, Bool, true, false}
 use Rattle.std.specs.Result.{result_err, result_unwrap_or}
 use Rattle.tn_mem.specs.declared.touches.Touch.{Touch}
 use Rattle.tn_mem.specs.declared.touches.Touch.TheVariants.{Outside}
-use Rattle.tn_mem.specs.Spaces.{Access, SameExtents, IsSpace}
+use Rattle.tn_mem.specs.Spaces.{Access, Leaves, SameExtents, IsSpace}
 use Rattle.tn_mem.proofs.SpaceLemmas.{allowed, extents-none}
-use Rattle.tn_cpu.specs.Queues.{storable, loadable, block_refusal, stored, copied, word_at}
+use Rattle.tn_cpu.specs.Queues.{storable, loadable, block_refusal, source_refusal, stored, copied, word_at}
 
 -- an answer that is not refused is what stands in its place
 answer-unwrapped : {X : Type 0} (r : Result X Touch) (other : X) → result_err r ≡ None → r ≡ Ok (result_unwrap_or r other)
@@ -44,14 +44,13 @@ loadable-storable access m a laws e =
     unrefused (Ok x) h = refl
     unrefused (Err touch) h = cc
 
--- a block that is not refused is copied over one that is not
+-- a block that may be read is copied over one that may be stored
 pub copied-blocks :
-    {M : Type 0} (access : Access M) (m : M) (from to n : ℕ) → IsSpace access → block_refusal access m from n ≡ None
+    {M : Type 0} (access : Access M) (m : M) (from to n : ℕ) → IsSpace access → source_refusal access m from n ≡ None
     → block_refusal access m to n ≡ None → access.copy m from to n ≡ Ok (copied access m from to n)
-unfolding block_refusal copied
+unfolding block_refusal source_refusal copied
 copied-blocks access m from to n laws source target =
-    let read = ap result_err (laws.source_of_block m from n (allowed (access.block m from n) source)) in
-    answer-unwrapped (access.copy m from to n) m (laws.copy_as_blocks m from to n ∙ rw (read, target) refl)
+    answer-unwrapped (access.copy m from to n) m (laws.copy_as_blocks m from to n ∙ rw (source, target) refl)
 
 -- a store leaves the same accesses refused
 kept :
@@ -63,6 +62,13 @@ kept access m (Err touch) keeps = extents-none access m
 pub extents-stored : {M : Type 0} (access : Access M) (m : M) (a word : ℕ) → IsSpace access → SameExtents access m (stored access m a word)
 unfolding stored
 extents-stored access m a word laws = kept access m (access.set_word m a word) (λ n e. laws.set_word_keeps m n a word e)
+
+-- a call on a space leaves them so, whatever it answers
+pub extents-left :
+    {M : Type 0} (access : Access M) (result : Result ⊤ Touch) (made : Result M Touch) (old new : M) → Leaves result made old new
+    → ((n : M) → made ≡ Ok n → SameExtents access old n) → SameExtents access old new
+extents-left access (Ok u) made old new h keeps = keeps new h
+extents-left access (Err touch) made old new h keeps = rw (h.1) (extents-none access old)
 
 pub extents-copied :
     {M : Type 0} (access : Access M) (m : M) (from to n : ℕ) → IsSpace access → SameExtents access m (copied access m from to n)
@@ -85,3 +91,9 @@ pub block_refusal-after :
     → block_refusal access new a n ≡ block_refusal access old a n
 unfolding block_refusal
 block_refusal-after access old new a n same = same.block a n
+
+pub source_refusal-after :
+    {M : Type 0} (access : Access M) (old new : M) (a n : ℕ) → SameExtents access old new
+    → source_refusal access new a n ≡ source_refusal access old a n
+unfolding source_refusal
+source_refusal-after access old new a n same = same.source a n

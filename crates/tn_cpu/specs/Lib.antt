@@ -1,4 +1,5 @@
 pub mod States
+pub mod Views
 pub mod Turns
 pub mod Queues
 pub mod Channels
@@ -8,3 +9,4 @@ pub mod Steps
 pub mod Codes
 pub mod TurnEnds
 pub mod OutcomeLaws
+pub mod Following

@@ -73,12 +73,15 @@ enqueued_behind access (Word front) process s =
 unfoldable pub enqueued : {M : Type 0} → Access M → ℕ → State M → State M
 enqueued access process s = enqueued_behind access s.front process s
 
--- the refusal of what next loads: of the front, where there is one, word -1, and where it is not the back, word -2
+-- the refusal of what next loads of the front: word -1, and where it is not the back, word -2
+abbrev pub resume_refusal : {M : Type 0} → Access M → M → ℕ → ℕ → Option Touch
+resume_refusal access m front back =
+    first_refusal (loadable access m (below front 4)) (if front == back then None else loadable access m (below front 8))
+
 unfoldable pub next_refusal : {M : Type 0} → Access M → M → Reg → ℕ → Option Touch
 next_refusal access m Undefined back = None
 next_refusal access m (Word front) back =
-    if front == not_process then None else first_refusal (loadable access m (below front 4))
-    (if front == back then None else loadable access m (below front 8))
+    if front == not_process then None else resume_refusal access m front back
 
 -- no process runs
 abbrev pub idle : {M : Type 0} → State M → State M

@@ -18,7 +18,7 @@ impl<M: Space> Cpu<M> {
     pub(crate) fn bsub(&mut self, turn: Turn) -> Outcome
         ensures { operate M.access Op.Bsub turn self.old ≡ record { state = self.new; outcome = result } }
     {
-        match (self.a, self.b) {
+        match (self.registers.a, self.registers.b) {
             (Reg::Word(a), Reg::Word(b)) => self.join(unchecked(a.wrapping_add(b)), turn.following),
             _ => self.stop(Why::Undefined),
         }
@@ -28,7 +28,7 @@ impl<M: Space> Cpu<M> {
     pub(crate) fn diff(&mut self, turn: Turn) -> Outcome
         ensures { operate M.access Op.Diff turn self.old ≡ record { state = self.new; outcome = result } }
     {
-        match (self.a, self.b) {
+        match (self.registers.a, self.registers.b) {
             (Reg::Word(a), Reg::Word(b)) => self.join(unchecked(b.wrapping_sub(a)), turn.following),
             _ => self.stop(Why::Undefined),
         }
@@ -38,7 +38,7 @@ impl<M: Space> Cpu<M> {
     pub(crate) fn add(&mut self, turn: Turn) -> Outcome
         ensures { operate M.access Op.Add turn self.old ≡ record { state = self.new; outcome = result } }
     {
-        match (self.a, self.b) {
+        match (self.registers.a, self.registers.b) {
             (Reg::Word(a), Reg::Word(b)) => self.join(tn_alu::add(b, a), turn.following),
             _ => self.stop(Why::Undefined),
         }
@@ -48,7 +48,7 @@ impl<M: Space> Cpu<M> {
     pub(crate) fn prod(&mut self, turn: Turn) -> Outcome
         ensures { operate M.access Op.Prod turn self.old ≡ record { state = self.new; outcome = result } }
     {
-        match (self.a, self.b) {
+        match (self.registers.a, self.registers.b) {
             (Reg::Word(a), Reg::Word(b)) => self.join(unchecked(b.wrapping_mul(a)), turn.following),
             _ => self.stop(Why::Undefined),
         }
@@ -58,7 +58,7 @@ impl<M: Space> Cpu<M> {
     pub(crate) fn gt(&mut self, turn: Turn) -> Outcome
         ensures { operate M.access Op.Gt turn self.old ≡ record { state = self.new; outcome = result } }
     {
-        match (self.a, self.b) {
+        match (self.registers.a, self.registers.b) {
             (Reg::Word(a), Reg::Word(b)) => self.join(
                 unchecked(u32::from(b.cast_signed() > a.cast_signed())),
                 turn.following,
@@ -71,7 +71,7 @@ impl<M: Space> Cpu<M> {
     pub(crate) fn wsub(&mut self, turn: Turn) -> Outcome
         ensures { operate M.access Op.Wsub turn self.old ≡ record { state = self.new; outcome = result } }
     {
-        match (self.a, self.b) {
+        match (self.registers.a, self.registers.b) {
             (Reg::Word(a), Reg::Word(b)) => self.join(unchecked(words_above(a, b)), turn.following),
             _ => self.stop(Why::Undefined),
         }
@@ -81,7 +81,7 @@ impl<M: Space> Cpu<M> {
     pub(crate) fn sub(&mut self, turn: Turn) -> Outcome
         ensures { operate M.access Op.Sub turn self.old ≡ record { state = self.new; outcome = result } }
     {
-        match (self.a, self.b) {
+        match (self.registers.a, self.registers.b) {
             (Reg::Word(a), Reg::Word(b)) => self.join(tn_alu::sub(b, a), turn.following),
             _ => self.stop(Why::Undefined),
         }
@@ -91,7 +91,7 @@ impl<M: Space> Cpu<M> {
     pub(crate) fn rem(&mut self, turn: Turn) -> Outcome
         ensures { operate M.access Op.Rem turn self.old ≡ record { state = self.new; outcome = result } }
     {
-        match (self.a, self.b) {
+        match (self.registers.a, self.registers.b) {
             (Reg::Word(a), Reg::Word(b)) => self.join(tn_alu::rem(b, a), turn.following),
             _ => self.stop(Why::Undefined),
         }
@@ -101,7 +101,7 @@ impl<M: Space> Cpu<M> {
     pub(crate) fn div(&mut self, turn: Turn) -> Outcome
         ensures { operate M.access Op.Div turn self.old ≡ record { state = self.new; outcome = result } }
     {
-        match (self.a, self.b) {
+        match (self.registers.a, self.registers.b) {
             (Reg::Word(a), Reg::Word(b)) => self.join(tn_alu::div(b, a), turn.following),
             _ => self.stop(Why::Undefined),
         }
@@ -111,7 +111,7 @@ impl<M: Space> Cpu<M> {
     pub(crate) fn xor(&mut self, turn: Turn) -> Outcome
         ensures { operate M.access Op.Xor turn self.old ≡ record { state = self.new; outcome = result } }
     {
-        match (self.a, self.b) {
+        match (self.registers.a, self.registers.b) {
             (Reg::Word(a), Reg::Word(b)) => self.join(unchecked(b ^ a), turn.following),
             _ => self.stop(Why::Undefined),
         }
@@ -121,7 +121,7 @@ impl<M: Space> Cpu<M> {
     pub(crate) fn shr(&mut self, turn: Turn) -> Outcome
         ensures { operate M.access Op.Shr turn self.old ≡ record { state = self.new; outcome = result } }
     {
-        match (self.a, self.b) {
+        match (self.registers.a, self.registers.b) {
             (Reg::Word(a), Reg::Word(b)) => self.join(tn_alu::shr(b, a), turn.following),
             _ => self.stop(Why::Undefined),
         }
@@ -131,7 +131,7 @@ impl<M: Space> Cpu<M> {
     pub(crate) fn shl(&mut self, turn: Turn) -> Outcome
         ensures { operate M.access Op.Shl turn self.old ≡ record { state = self.new; outcome = result } }
     {
-        match (self.a, self.b) {
+        match (self.registers.a, self.registers.b) {
             (Reg::Word(a), Reg::Word(b)) => self.join(tn_alu::shl(b, a), turn.following),
             _ => self.stop(Why::Undefined),
         }
@@ -141,7 +141,7 @@ impl<M: Space> Cpu<M> {
     pub(crate) fn and(&mut self, turn: Turn) -> Outcome
         ensures { operate M.access Op.And turn self.old ≡ record { state = self.new; outcome = result } }
     {
-        match (self.a, self.b) {
+        match (self.registers.a, self.registers.b) {
             (Reg::Word(a), Reg::Word(b)) => self.join(unchecked(b & a), turn.following),
             _ => self.stop(Why::Undefined),
         }
@@ -151,7 +151,7 @@ impl<M: Space> Cpu<M> {
     pub(crate) fn or(&mut self, turn: Turn) -> Outcome
         ensures { operate M.access Op.Or turn self.old ≡ record { state = self.new; outcome = result } }
     {
-        match (self.a, self.b) {
+        match (self.registers.a, self.registers.b) {
             (Reg::Word(a), Reg::Word(b)) => self.join(unchecked(b | a), turn.following),
             _ => self.stop(Why::Undefined),
         }
@@ -161,7 +161,7 @@ impl<M: Space> Cpu<M> {
     pub(crate) fn sum(&mut self, turn: Turn) -> Outcome
         ensures { operate M.access Op.Sum turn self.old ≡ record { state = self.new; outcome = result } }
     {
-        match (self.a, self.b) {
+        match (self.registers.a, self.registers.b) {
             (Reg::Word(a), Reg::Word(b)) => self.join(unchecked(b.wrapping_add(a)), turn.following),
             _ => self.stop(Why::Undefined),
         }
@@ -171,7 +171,7 @@ impl<M: Space> Cpu<M> {
     pub(crate) fn mul(&mut self, turn: Turn) -> Outcome
         ensures { operate M.access Op.Mul turn self.old ≡ record { state = self.new; outcome = result } }
     {
-        match (self.a, self.b) {
+        match (self.registers.a, self.registers.b) {
             (Reg::Word(a), Reg::Word(b)) => self.join(tn_alu::mul(b, a), turn.following),
             _ => self.stop(Why::Undefined),
         }
@@ -181,7 +181,7 @@ impl<M: Space> Cpu<M> {
     pub(crate) fn lmul(&mut self, turn: Turn) -> Outcome
         ensures { operate M.access Op.Lmul turn self.old ≡ record { state = self.new; outcome = result } }
     {
-        match (self.a, self.b, self.c) {
+        match (self.registers.a, self.registers.b, self.registers.c) {
             (Reg::Word(a), Reg::Word(b), Reg::Word(c)) => self.fill(
                 tn_alu::lmul(a, b, c),
                 turn.following,
@@ -194,7 +194,7 @@ impl<M: Space> Cpu<M> {
     pub(crate) fn lsum(&mut self, turn: Turn) -> Outcome
         ensures { operate M.access Op.Lsum turn self.old ≡ record { state = self.new; outcome = result } }
     {
-        match (self.a, self.b, self.c) {
+        match (self.registers.a, self.registers.b, self.registers.c) {
             (Reg::Word(a), Reg::Word(b), Reg::Word(c)) => self.fill(
                 tn_alu::lsum(a, b, c),
                 turn.following,
@@ -207,7 +207,7 @@ impl<M: Space> Cpu<M> {
     pub(crate) fn ldiff(&mut self, turn: Turn) -> Outcome
         ensures { operate M.access Op.Ldiff turn self.old ≡ record { state = self.new; outcome = result } }
     {
-        match (self.a, self.b, self.c) {
+        match (self.registers.a, self.registers.b, self.registers.c) {
             (Reg::Word(a), Reg::Word(b), Reg::Word(c)) => self.fill(
                 tn_alu::ldiff(a, b, c),
                 turn.following,
@@ -220,9 +220,9 @@ impl<M: Space> Cpu<M> {
     fn fill(&mut self, words: (u32, u32), iptr: u32) -> Outcome
         ensures { ran iptr (filled words.0 words.1 self.old) ≡ record { state = self.new; outcome = result } }
     {
-        self.a = Reg::Word(words.0);
-        self.b = Reg::Word(words.1);
-        self.c = Reg::Undefined;
+        self.registers.a = Reg::Word(words.0);
+        self.registers.b = Reg::Word(words.1);
+        self.registers.c = Reg::Undefined;
         self.go_on(iptr)
     }
 }

@@ -1,5 +1,9 @@
-ghost use Rattle.std.specs.Prelude.{◌≡◌, ◌<◌};
-ghost use Rattle.tn_cpu.specs.Channels.{first_link, aligned_channel, channel_at, is_set, is_open, opens, linked, waiting, waits, exchanged, bytes_refusal, other_way, partner_refusal, met, internal, is_outside, on_channel, transfer_row};
+ghost use Rattle.std.specs.Prelude.{◌≡◌, ◌<◌, None};
+ghost use Rattle.tn_mem.specs.Spaces.{SameExtents};
+ghost use Rattle.tn_cpu.specs.Queues.{storable};
+ghost use Rattle.tn_cpu.specs.Channels.{first_link, aligned_channel, channel_at, is_set, is_open, opens, linked, waiting, waits};
+ghost use Rattle.tn_cpu.specs.Channels.{exchanged, bytes_refusal, other_way, partner_refusal, met, internal, is_outside, on_channel};
+ghost use Rattle.tn_cpu.specs.Channels.{transfer_row};
 
 use crate::outcomes::{Outcome, Transfer, Why};
 use crate::processors::Cpu;
@@ -44,7 +48,7 @@ impl<M: Space> Cpu<M> {
     pub(crate) fn transfer(&mut self, way: Way, turn: Turn) -> Outcome
         ensures { transfer_row M.access way turn self.old ≡ record { state = self.new; outcome = result } }
     {
-        match (self.a, self.b, self.c) {
+        match (self.registers.a, self.registers.b, self.registers.c) {
             (Reg::Word(count), Reg::Word(channel), Reg::Word(pointer)) => {
                 self.on_channel(way, turn, count, channel, pointer)
             }
@@ -61,7 +65,8 @@ impl<M: Space> Cpu<M> {
         channel: u32,
         pointer: u32,
     ) -> Outcome
-        ensures { on_channel M.access way turn count channel pointer (channel_at way channel) self.old ≡ record { state = self.new; outcome = result } }
+        ensures { on_channel M.access way turn count channel pointer (channel_at way channel) self.old
+            ≡ record { state = self.new; outcome = result } }
     {
         match channel_at(way, channel) {
             Channel::NoChannel => self.stop(Why::Outside),
@@ -72,16 +77,17 @@ impl<M: Space> Cpu<M> {
 
     /// A transfer on a link: its engine opens, and the next process runs.
     fn on_link(&mut self, way: Way, turn: Turn, count: u32, pointer: u32, link: u8) -> Outcome
-        ensures { on_channel M.access way turn count 0 pointer (Channel.Link link) self.old ≡ record { state = self.new; outcome = result } }
+        ensures { on_channel M.access way turn count 0 pointer (Channel.Link link) self.old
+            ≡ record { state = self.new; outcome = result } }
     {
-        let Reg::Word(_) = self.front else {
+        let Reg::Word(_) = self.registers.front else {
             return self.stop(Why::Undefined);
         };
         if count == 0 || is_open(way, link, turn.busy) {
             return self.stop(Why::Outside);
         }
-        let saved = self.storable(below(self.wptr, 4));
-        let words = first_refusal(saved, self.next_refusal(self.back));
+        let saved = self.storable(below(self.registers.wptr, 4));
+        let words = first_refusal(saved, self.next_refusal(self.registers.back));
         if let Some(touch) = first_refusal(self.bytes_refusal(way, pointer, count), words) {
             return self.refuse(touch);
         }
@@ -89,7 +95,7 @@ impl<M: Space> Cpu<M> {
             link,
             pointer,
             count,
-            process: self.wptr,
+            process: self.registers.wptr,
         };
         self.save(turn.following);
         self.next();
@@ -105,13 +111,14 @@ impl<M: Space> Cpu<M> {
         channel: u32,
         pointer: u32,
     ) -> Outcome
-        ensures { on_channel M.access way turn count channel pointer Channel.Internal self.old ≡ record { state = self.new; outcome = result } }
+        ensures { on_channel M.access way turn count channel pointer Channel.Internal self.old
+            ≡ record { state = self.new; outcome = result } }
     {
         let refusal = self.storable(channel);
         if let Some(Touch::Outside) = refusal {
             return self.stop(Why::Outside);
         }
-        let Reg::Word(_) = self.front else {
+        let Reg::Word(_) = self.registers.front else {
             return self.stop(Why::Undefined);
         };
         if let Some(touch) = refusal {
@@ -129,19 +136,20 @@ impl<M: Space> Cpu<M> {
 
     /// The current process waits on a channel, and the next process runs.
     fn wait(&mut self, turn: Turn, channel: u32, pointer: u32) -> Outcome
+        requires { storable M.access self.old.memory channel ≡ None }
         ensures { waits M.access turn channel pointer self.old ≡ record { state = self.new; outcome = result } }
     {
         let workspace = first_refusal(
-            self.storable(below(self.wptr, 12)),
-            self.next_refusal(self.back),
+            self.storable(below(self.registers.wptr, 12)),
+            self.next_refusal(self.registers.back),
         );
-        let saved = self.storable(below(self.wptr, 4));
+        let saved = self.storable(below(self.registers.wptr, 4));
         if let Some(touch) = first_refusal(saved, workspace) {
             return self.refuse(touch);
         }
         self.save(turn.following);
-        self.store(below(self.wptr, 12), pointer);
-        self.store(channel, self.wptr.wrapping_add(1));
+        self.store(below(self.registers.wptr, 12), pointer);
+        self.store(channel, self.registers.wptr.wrapping_add(1));
         self.give_way()
     }
 
@@ -156,6 +164,7 @@ impl<M: Space> Cpu<M> {
         pointer: u32,
         process: u32,
     ) -> Outcome
+        requires { storable M.access self.old.memory channel ≡ None }
         ensures { met M.access way turn count channel pointer process self.old ≡ record { state = self.new; outcome = result } }
     {
         let own = first_refusal(
@@ -195,7 +204,10 @@ impl<M: Space> Cpu<M> {
 
     /// Copies towards the inputting process.
     fn exchange(&mut self, way: Way, count: u32, pointer: u32, partner: u32)
-        ensures { self.new ≡ record self.old { memory = exchanged M.access way count pointer partner self.old.memory } }
+        requires own { bytes_refusal M.access way self.old.memory pointer count ≡ None }
+        requires partner { bytes_refusal M.access (other_way way) self.old.memory partner count ≡ None }
+        ensures extents { SameExtents M.access self.old.memory self.new.memory }
+        ensures value { self.new ≡ record self.old { memory = exchanged M.access way count pointer partner self.old.memory } }
     {
         match way {
             Way::Input => self.copy(partner, pointer, count),

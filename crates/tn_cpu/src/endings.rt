@@ -31,8 +31,8 @@ impl<M: Space> Cpu<M> {
     pub(crate) fn go_on(&mut self, iptr: u32) -> Outcome
         ensures { ran iptr self.old ≡ record { state = self.new; outcome = result } }
     {
-        self.iptr = iptr;
-        self.oreg = 0;
+        self.registers.iptr = iptr;
+        self.registers.oreg = 0;
         Outcome::Ran
     }
 
@@ -40,14 +40,14 @@ impl<M: Space> Cpu<M> {
     pub(crate) fn halts(&self, error: bool) -> bool
         ensures { result ≡ (error && self.now.halt) }
     {
-        error && self.halt
+        error && self.registers.halt
     }
 
     /// Ends an instruction that doesn't stop the processor and sets Error, if `error`.
     pub(crate) fn set_error(&mut self, error: bool, iptr: u32) -> Outcome
         ensures { ran iptr (record self.old { error = self.old.error || error }) ≡ record { state = self.new; outcome = result } }
     {
-        self.error = self.error || error;
+        self.registers.error = self.registers.error || error;
         self.go_on(iptr)
     }
 
@@ -58,9 +58,9 @@ impl<M: Space> Cpu<M> {
         if self.halts(answer.error) {
             return self.stop(Why::Halted);
         }
-        self.a = register(answer.value);
-        self.b = self.c;
-        self.c = Reg::Undefined;
+        self.registers.a = register(answer.value);
+        self.registers.b = self.registers.c;
+        self.registers.c = Reg::Undefined;
         self.set_error(answer.error, iptr)
     }
 
@@ -71,7 +71,7 @@ impl<M: Space> Cpu<M> {
         if self.halts(answer.error) {
             return self.stop(Why::Halted);
         }
-        self.a = register(answer.value);
+        self.registers.a = register(answer.value);
         self.set_error(answer.error, iptr)
     }
 }

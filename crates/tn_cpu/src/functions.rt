@@ -33,7 +33,8 @@ impl<M: Space> Cpu<M> {
     ) -> Outcome
         requires running { self.old.life ≡ Life.Running }
         requires coded { IsCoded fun }
-        ensures effect { effect M.access fun operand (record { following = following; busy = busy; slice = slice; clock = clock }) self.old ≡ record { state = self.new; outcome = result } }
+        ensures effect { effect M.access fun operand (record { following = following; busy = busy; slice = slice; clock = clock }) self.old
+            ≡ record { state = self.new; outcome = result } }
         ensures turn { EndsTurn M.access busy self.old (record { state = self.new; outcome = result }) }
         ensures transfer { OpensLink result }
         ensures stray { IsNotStray result }
@@ -82,11 +83,12 @@ impl<M: Space> Cpu<M> {
 
     /// The word at an address takes the place of Areg.
     fn load_top(&mut self, a: u32, iptr: u32) -> Outcome
-        ensures { with_answer (M.access.word self.old.memory a) self.old (λ x. ran iptr (replaced x self.old)) ≡ record { state = self.new; outcome = result } }
+        ensures { with_answer (M.access.word self.old.memory a) self.old (λ x. ran iptr (replaced x self.old))
+            ≡ record { state = self.new; outcome = result } }
     {
         match self.memory.word(a) {
             Ok(word) => {
-                self.a = Reg::Word(word);
+                self.registers.a = Reg::Word(word);
                 self.go_on(iptr)
             }
             Err(touch) => self.refuse(touch),
@@ -110,7 +112,7 @@ impl<M: Space> Cpu<M> {
     fn ldlp(&mut self, operand: u32, turn: Turn) -> Outcome
         ensures { effect M.access Fun.Ldlp operand turn self.old ≡ record { state = self.new; outcome = result } }
     {
-        self.push(words_above(self.wptr, operand));
+        self.push(words_above(self.registers.wptr, operand));
         self.go_on(turn.following)
     }
 
@@ -118,7 +120,7 @@ impl<M: Space> Cpu<M> {
     fn ldnl(&mut self, operand: u32, turn: Turn) -> Outcome
         ensures { effect M.access Fun.Ldnl operand turn self.old ≡ record { state = self.new; outcome = result } }
     {
-        match self.a {
+        match self.registers.a {
             Reg::Word(a) => self.load_top(words_above(a, operand), turn.following),
             Reg::Undefined => self.stop(Why::Undefined),
         }
@@ -136,9 +138,9 @@ impl<M: Space> Cpu<M> {
     fn ldnlp(&mut self, operand: u32, turn: Turn) -> Outcome
         ensures { effect M.access Fun.Ldnlp operand turn self.old ≡ record { state = self.new; outcome = result } }
     {
-        match self.a {
+        match self.registers.a {
             Reg::Word(a) => {
-                self.a = Reg::Word(words_above(a, operand));
+                self.registers.a = Reg::Word(words_above(a, operand));
                 self.go_on(turn.following)
             }
             Reg::Undefined => self.stop(Why::Undefined),
@@ -149,7 +151,7 @@ impl<M: Space> Cpu<M> {
     fn ldl(&mut self, operand: u32, turn: Turn) -> Outcome
         ensures { effect M.access Fun.Ldl operand turn self.old ≡ record { state = self.new; outcome = result } }
     {
-        match self.memory.word(words_above(self.wptr, operand)) {
+        match self.memory.word(words_above(self.registers.wptr, operand)) {
             Ok(word) => {
                 self.push(word);
                 self.go_on(turn.following)
@@ -162,7 +164,7 @@ impl<M: Space> Cpu<M> {
     fn adc(&mut self, operand: u32, turn: Turn) -> Outcome
         ensures { effect M.access Fun.Adc operand turn self.old ≡ record { state = self.new; outcome = result } }
     {
-        match self.a {
+        match self.registers.a {
             Reg::Word(a) => self.replace(tn_alu::add(a, operand), turn.following),
             Reg::Undefined => self.stop(Why::Undefined),
         }
@@ -172,7 +174,7 @@ impl<M: Space> Cpu<M> {
     fn cj(&mut self, operand: u32, turn: Turn) -> Outcome
         ensures { effect M.access Fun.Cj operand turn self.old ≡ record { state = self.new; outcome = result } }
     {
-        match self.a {
+        match self.registers.a {
             Reg::Word(a) => {
                 if a == 0 {
                     return self.go_on(turn.following.wrapping_add(operand));
@@ -188,7 +190,7 @@ impl<M: Space> Cpu<M> {
     fn ajw(&mut self, operand: u32, turn: Turn) -> Outcome
         ensures { effect M.access Fun.Ajw operand turn self.old ≡ record { state = self.new; outcome = result } }
     {
-        self.wptr = words_above(self.wptr, operand);
+        self.registers.wptr = words_above(self.registers.wptr, operand);
         self.go_on(turn.following)
     }
 
@@ -196,9 +198,9 @@ impl<M: Space> Cpu<M> {
     fn eqc(&mut self, operand: u32, turn: Turn) -> Outcome
         ensures { effect M.access Fun.Eqc operand turn self.old ≡ record { state = self.new; outcome = result } }
     {
-        match self.a {
+        match self.registers.a {
             Reg::Word(a) => {
-                self.a = Reg::Word(u32::from(a == operand));
+                self.registers.a = Reg::Word(u32::from(a == operand));
                 self.go_on(turn.following)
             }
             Reg::Undefined => self.stop(Why::Undefined),
@@ -209,9 +211,12 @@ impl<M: Space> Cpu<M> {
     fn stl(&mut self, operand: u32, turn: Turn) -> Outcome
         ensures { effect M.access Fun.Stl operand turn self.old ≡ record { state = self.new; outcome = result } }
     {
-        match self.a {
+        match self.registers.a {
             Reg::Word(a) => {
-                match self.memory.set_word(words_above(self.wptr, operand), a) {
+                match self
+                    .memory
+                    .set_word(words_above(self.registers.wptr, operand), a)
+                {
                     Ok(()) => {
                         self.pop();
                         self.go_on(turn.following)
@@ -227,7 +232,7 @@ impl<M: Space> Cpu<M> {
     fn stnl(&mut self, operand: u32, turn: Turn) -> Outcome
         ensures { effect M.access Fun.Stnl operand turn self.old ≡ record { state = self.new; outcome = result } }
     {
-        match (self.a, self.b) {
+        match (self.registers.a, self.registers.b) {
             (Reg::Word(a), Reg::Word(b)) => {
                 match self.memory.set_word(words_above(a, operand), b) {
                     Ok(()) => {

@@ -77,9 +77,9 @@ impl<M: Space> Cpu<M> {
     fn rev(&mut self, turn: Turn) -> Outcome
         ensures { operate M.access Op.Rev turn self.old ≡ record { state = self.new; outcome = result } }
     {
-        let a = self.a;
-        self.a = self.b;
-        self.b = a;
+        let a = self.registers.a;
+        self.registers.a = self.registers.b;
+        self.registers.b = a;
         self.go_on(turn.following)
     }
 
@@ -87,11 +87,11 @@ impl<M: Space> Cpu<M> {
     fn lb(&mut self, turn: Turn) -> Outcome
         ensures { operate M.access Op.Lb turn self.old ≡ record { state = self.new; outcome = result } }
     {
-        match self.a {
+        match self.registers.a {
             Reg::Word(a) => {
                 match self.memory.byte(a) {
                     Ok(byte) => {
-                        self.a = Reg::Word(u32::from(byte));
+                        self.registers.a = Reg::Word(u32::from(byte));
                         self.go_on(turn.following)
                     }
                     Err(touch) => self.refuse(touch),
@@ -105,9 +105,9 @@ impl<M: Space> Cpu<M> {
     fn gcall(&mut self, turn: Turn) -> Outcome
         ensures { operate M.access Op.Gcall turn self.old ≡ record { state = self.new; outcome = result } }
     {
-        match self.a {
+        match self.registers.a {
             Reg::Word(a) => {
-                self.a = Reg::Word(turn.following);
+                self.registers.a = Reg::Word(turn.following);
                 self.go_on(a)
             }
             Reg::Undefined => self.stop(Why::Undefined),
@@ -128,7 +128,7 @@ impl<M: Space> Cpu<M> {
     fn csub0(&mut self, turn: Turn) -> Outcome
         ensures { operate M.access Op.Csub0 turn self.old ≡ record { state = self.new; outcome = result } }
     {
-        match (self.a, self.b) {
+        match (self.registers.a, self.registers.b) {
             (Reg::Word(a), Reg::Word(b)) => {
                 let error = b >= a;
                 if self.halts(error) {
@@ -145,7 +145,7 @@ impl<M: Space> Cpu<M> {
     fn sthf(&mut self, turn: Turn) -> Outcome
         ensures { operate M.access Op.Sthf turn self.old ≡ record { state = self.new; outcome = result } }
     {
-        match self.a {
+        match self.registers.a {
             Reg::Word(a) => {
                 if a != NOT_PROCESS {
                     return self.stop(Why::Outside);
@@ -161,13 +161,13 @@ impl<M: Space> Cpu<M> {
     fn stlf(&mut self, turn: Turn) -> Outcome
         ensures { operate M.access Op.Stlf turn self.old ≡ record { state = self.new; outcome = result } }
     {
-        match self.a {
+        match self.registers.a {
             Reg::Word(a) => {
                 if a != NOT_PROCESS {
                     return self.stop(Why::Outside);
                 }
                 self.pop();
-                self.front = Reg::Word(a);
+                self.registers.front = Reg::Word(a);
                 self.go_on(turn.following)
             }
             Reg::Undefined => self.stop(Why::Undefined),
@@ -178,9 +178,9 @@ impl<M: Space> Cpu<M> {
     fn ldpi(&mut self, turn: Turn) -> Outcome
         ensures { operate M.access Op.Ldpi turn self.old ≡ record { state = self.new; outcome = result } }
     {
-        match self.a {
+        match self.registers.a {
             Reg::Word(a) => {
-                self.a = Reg::Word(turn.following.wrapping_add(a));
+                self.registers.a = Reg::Word(turn.following.wrapping_add(a));
                 self.go_on(turn.following)
             }
             Reg::Undefined => self.stop(Why::Undefined),
@@ -191,10 +191,10 @@ impl<M: Space> Cpu<M> {
     fn xdble(&mut self, turn: Turn) -> Outcome
         ensures { operate M.access Op.Xdble turn self.old ≡ record { state = self.new; outcome = result } }
     {
-        match self.a {
+        match self.registers.a {
             Reg::Word(a) => {
-                self.c = self.b;
-                self.b = Reg::Word(if a >= SIGN { 0xFFFF_FFFF } else { 0 });
+                self.registers.c = self.registers.b;
+                self.registers.b = Reg::Word(if a >= SIGN { 0xFFFF_FFFF } else { 0 });
                 self.go_on(turn.following)
             }
             Reg::Undefined => self.stop(Why::Undefined),
@@ -205,9 +205,9 @@ impl<M: Space> Cpu<M> {
     fn ret(&mut self, turn: Turn) -> Outcome
         ensures { operate M.access Op.Ret turn self.old ≡ record { state = self.new; outcome = result } }
     {
-        match self.memory.word(self.wptr) {
+        match self.memory.word(self.registers.wptr) {
             Ok(iptr) => {
-                self.wptr = words_above(self.wptr, 4);
+                self.registers.wptr = words_above(self.registers.wptr, 4);
                 self.go_on(iptr)
             }
             Err(touch) => self.refuse(touch),
@@ -226,8 +226,8 @@ impl<M: Space> Cpu<M> {
     fn testerr(&mut self, turn: Turn) -> Outcome
         ensures { operate M.access Op.Testerr turn self.old ≡ record { state = self.new; outcome = result } }
     {
-        self.push(u32::from(!self.error));
-        self.error = false;
+        self.push(u32::from(!self.registers.error));
+        self.registers.error = false;
         self.go_on(turn.following)
     }
 
@@ -235,9 +235,9 @@ impl<M: Space> Cpu<M> {
     fn not(&mut self, turn: Turn) -> Outcome
         ensures { operate M.access Op.Not turn self.old ≡ record { state = self.new; outcome = result } }
     {
-        match self.a {
+        match self.registers.a {
             Reg::Word(a) => {
-                self.a = Reg::Word(!a);
+                self.registers.a = Reg::Word(!a);
                 self.go_on(turn.following)
             }
             Reg::Undefined => self.stop(Why::Undefined),
@@ -248,9 +248,9 @@ impl<M: Space> Cpu<M> {
     fn bcnt(&mut self, turn: Turn) -> Outcome
         ensures { operate M.access Op.Bcnt turn self.old ≡ record { state = self.new; outcome = result } }
     {
-        match self.a {
+        match self.registers.a {
             Reg::Word(a) => {
-                self.a = Reg::Word(a.wrapping_mul(4));
+                self.registers.a = Reg::Word(a.wrapping_mul(4));
                 self.go_on(turn.following)
             }
             Reg::Undefined => self.stop(Why::Undefined),
@@ -261,7 +261,7 @@ impl<M: Space> Cpu<M> {
     fn sb(&mut self, turn: Turn) -> Outcome
         ensures { operate M.access Op.Sb turn self.old ≡ record { state = self.new; outcome = result } }
     {
-        match (self.a, self.b) {
+        match (self.registers.a, self.registers.b) {
             (Reg::Word(a), Reg::Word(b)) => {
                 match self.memory.set_byte(a, (b % 256) as u8) {
                     Ok(()) => {
@@ -279,13 +279,13 @@ impl<M: Space> Cpu<M> {
     fn gajw(&mut self, turn: Turn) -> Outcome
         ensures { operate M.access Op.Gajw turn self.old ≡ record { state = self.new; outcome = result } }
     {
-        match self.a {
+        match self.registers.a {
             Reg::Word(a) => {
                 if a % 4 != 0 {
                     return self.stop(Why::Outside);
                 }
-                self.a = Reg::Word(self.wptr);
-                self.wptr = a;
+                self.registers.a = Reg::Word(self.registers.wptr);
+                self.registers.wptr = a;
                 self.go_on(turn.following)
             }
             Reg::Undefined => self.stop(Why::Undefined),
@@ -296,11 +296,11 @@ impl<M: Space> Cpu<M> {
     fn wcnt(&mut self, turn: Turn) -> Outcome
         ensures { operate M.access Op.Wcnt turn self.old ≡ record { state = self.new; outcome = result } }
     {
-        match self.a {
+        match self.registers.a {
             Reg::Word(a) => {
-                self.c = self.b;
-                self.b = Reg::Word(a % 4);
-                self.a = Reg::Word(quarter(a));
+                self.registers.c = self.registers.b;
+                self.registers.b = Reg::Word(a % 4);
+                self.registers.a = Reg::Word(quarter(a));
                 self.go_on(turn.following)
             }
             Reg::Undefined => self.stop(Why::Undefined),
@@ -320,7 +320,7 @@ impl<M: Space> Cpu<M> {
     fn sttimer(&mut self, turn: Turn) -> Outcome
         ensures { operate M.access Op.Sttimer turn self.old ≡ record { state = self.new; outcome = result } }
     {
-        match self.a {
+        match self.registers.a {
             Reg::Word(_) => {
                 self.pop();
                 self.go_on(turn.following)
@@ -333,7 +333,7 @@ impl<M: Space> Cpu<M> {
     fn clrhalterr(&mut self, turn: Turn) -> Outcome
         ensures { operate M.access Op.Clrhalterr turn self.old ≡ record { state = self.new; outcome = result } }
     {
-        self.halt = false;
+        self.registers.halt = false;
         self.go_on(turn.following)
     }
 
@@ -341,7 +341,7 @@ impl<M: Space> Cpu<M> {
     fn sethalterr(&mut self, turn: Turn) -> Outcome
         ensures { operate M.access Op.Sethalterr turn self.old ≡ record { state = self.new; outcome = result } }
     {
-        self.halt = true;
+        self.registers.halt = true;
         self.go_on(turn.following)
     }
 
@@ -349,8 +349,8 @@ impl<M: Space> Cpu<M> {
     fn dup(&mut self, turn: Turn) -> Outcome
         ensures { operate M.access Op.Dup turn self.old ≡ record { state = self.new; outcome = result } }
     {
-        self.c = self.b;
-        self.b = self.a;
+        self.registers.c = self.registers.b;
+        self.registers.b = self.registers.a;
         self.go_on(turn.following)
     }
 }

@@ -1,6 +1,7 @@
 ghost use Rattle.std.specs.Prelude.{◌≡◌, ◌≤◌, IfOk};
 ghost use Rattle.tn_mem.specs.Spaces.{Leaves};
 ghost use Rattle.tn_cpu.specs.States.{powered_up, booted, over_memory};
+ghost use Rattle.tn_cpu.specs.Views.{state_of};
 
 use crate::outcomes::Life;
 use crate::registers::Reg;
@@ -16,16 +17,7 @@ pub struct NoMemory;
 #[derive(Debug, Drop)]
 pub struct Cpu<M: Space> {
     pub(crate) memory: M,
-    pub(crate) a: Reg,
-    pub(crate) b: Reg,
-    pub(crate) c: Reg,
-    pub(crate) oreg: u32,
-    pub(crate) iptr: u32,
-    pub(crate) wptr: u32,
-    pub(crate) front: Reg,
-    pub(crate) back: u32,
-    pub(crate) error: bool,
-    pub(crate) halt: bool,
+    pub(crate) registers: CpuView,
     pub(crate) life: Life,
 }
 
@@ -56,10 +48,11 @@ pub struct CpuView {
 
 impl<M: Space> Model for Cpu<M> {
     ghost use Rattle.tn_cpu.specs.States.{State};
+    ghost use Rattle.tn_cpu.specs.Views.{state_of};
 
     ghost Value = { State M };
 
-    ghost view = { λ s. record { memory = s.memory; a = s.a; b = s.b; c = s.c; oreg = s.oreg; iptr = s.iptr; wptr = s.wptr; front = s.front; back = s.back; error = s.error; halt = s.halt; life = s.life } };
+    ghost view = { λ s. state_of s.memory s.registers s.life };
 }
 
 impl<M: Space> Cpu<M> {
@@ -70,16 +63,18 @@ impl<M: Space> Cpu<M> {
     {
         Cpu {
             memory,
-            a: Reg::Undefined,
-            b: Reg::Undefined,
-            c: Reg::Undefined,
-            oreg: 0,
-            iptr: 0,
-            wptr: 0,
-            front: Reg::Undefined,
-            back: 0,
-            error,
-            halt,
+            registers: CpuView {
+                a: Reg::Undefined,
+                b: Reg::Undefined,
+                c: Reg::Undefined,
+                oreg: 0,
+                iptr: 0,
+                wptr: 0,
+                front: Reg::Undefined,
+                back: 0,
+                error,
+                halt,
+            },
             life: Life::Idle,
         }
     }
@@ -91,13 +86,13 @@ impl<M: Space> Cpu<M> {
         requires { bytes ≤ 255 }
         ensures { self.new ≡ booted bytes self.old }
     {
-        self.a = Reg::Undefined;
-        self.b = Reg::Undefined;
-        self.c = Reg::Undefined;
-        self.oreg = 0;
-        self.iptr = MEM_START;
-        self.wptr = (MEM_START + bytes).next_multiple_of(4);
-        self.front = Reg::Undefined;
+        self.registers.a = Reg::Undefined;
+        self.registers.b = Reg::Undefined;
+        self.registers.c = Reg::Undefined;
+        self.registers.oreg = 0;
+        self.registers.iptr = MEM_START;
+        self.registers.wptr = (MEM_START + bytes).next_multiple_of(4);
+        self.registers.front = Reg::Undefined;
         self.life = Life::Running;
     }
 
@@ -133,20 +128,9 @@ impl<M: Space> Cpu<M> {
 
     /// What its registers hold.
     pub fn view(&self) -> CpuView
-        ensures { result ≡ record { a = self.now.a; b = self.now.b; c = self.now.c; oreg = self.now.oreg; iptr = self.now.iptr; wptr = self.now.wptr; front = self.now.front; back = self.now.back; error = self.now.error; halt = self.now.halt } }
+        ensures { self.now ≡ state_of self.now.memory result self.now.life }
     {
-        CpuView {
-            a: self.a,
-            b: self.b,
-            c: self.c,
-            oreg: self.oreg,
-            iptr: self.iptr,
-            wptr: self.wptr,
-            front: self.front,
-            back: self.back,
-            error: self.error,
-            halt: self.halt,
-        }
+        self.registers
     }
 }
 
@@ -160,16 +144,7 @@ impl Cpu<Memory> {
         let memory = CodeFree::around(copied, from, to);
         Ok(Cpu {
             memory,
-            a: self.a,
-            b: self.b,
-            c: self.c,
-            oreg: self.oreg,
-            iptr: self.iptr,
-            wptr: self.wptr,
-            front: self.front,
-            back: self.back,
-            error: self.error,
-            halt: self.halt,
+            registers: self.registers,
             life: self.life,
         })
     }

@@ -1,7 +1,9 @@
-ghost use Rattle.std.specs.Prelude.{◌≡◌};
-ghost use Rattle.tn_mem.specs.Spaces.{first_refusal};
+ghost use Rattle.std.specs.Prelude.{◌≡◌, None};
+ghost use Rattle.tn_mem.specs.Spaces.{SameExtents, first_refusal};
 ghost use Rattle.tn_cpu.specs.States.{below, words_above};
-ghost use Rattle.tn_cpu.specs.Queues.{storable, loadable, block_refusal, source_refusal, stored, copied, word_at, is_waiting, enqueue_refusal, enqueued, next_refusal, next, saved, slice_refusal, ran_or_sliced, gave_way, resumed, woken, woken_behind, woken_idle};
+ghost use Rattle.tn_cpu.specs.Queues.{storable, loadable, block_refusal, source_refusal, stored, copied, word_at, is_waiting};
+ghost use Rattle.tn_cpu.specs.Queues.{enqueue_refusal, enqueued, resume_refusal, next_refusal, next, saved, slice_refusal, ran_or_sliced};
+ghost use Rattle.tn_cpu.specs.Queues.{gave_way, resumed, woken, woken_behind, woken_idle};
 
 use crate::outcomes::{Life, Outcome, Why};
 use crate::processors::Cpu;
@@ -49,7 +51,9 @@ impl<M: Space> Cpu<M> {
     /// Stores a word that was tested.
     #[tactic(auto, unfolding(crate::specs::Queues::stored))]
     pub(crate) fn store(&mut self, a: u32, word: u32)
-        ensures { self.new ≡ record self.old { memory = stored M.access self.old.memory a word } }
+        requires { storable M.access self.old.memory a ≡ None }
+        ensures value { self.new ≡ record self.old { memory = stored M.access self.old.memory a word } }
+        ensures extents { SameExtents M.access self.old.memory self.new.memory }
     {
         let _tested = self.memory.set_word(a, word);
     }
@@ -57,7 +61,10 @@ impl<M: Space> Cpu<M> {
     /// Copies a block that was tested.
     #[tactic(auto, unfolding(crate::specs::Queues::copied))]
     pub(crate) fn copy(&mut self, from: u32, to: u32, n: u32)
-        ensures { self.new ≡ record self.old { memory = copied M.access self.old.memory from to n } }
+        requires source { source_refusal M.access self.old.memory from n ≡ None }
+        requires target { block_refusal M.access self.old.memory to n ≡ None }
+        ensures extents { SameExtents M.access self.old.memory self.new.memory }
+        ensures value { self.new ≡ record self.old { memory = copied M.access self.old.memory from to n } }
     {
         let _tested = self.memory.copy(from, to, n);
     }
@@ -65,6 +72,7 @@ impl<M: Space> Cpu<M> {
     /// The word at an address that was tested.
     #[tactic(auto, unfolding(crate::specs::Queues::word_at))]
     pub(crate) fn word_at(&self, a: u32) -> u32
+        requires { loadable M.access self.now.memory a ≡ None }
         ensures { result ≡ word_at M.access self.now.memory a }
     {
         self.memory.word(a).unwrap_or(0)
@@ -72,9 +80,11 @@ impl<M: Space> Cpu<M> {
 
     /// Saves an instruction pointer in word -1 of the current process.
     pub(crate) fn save(&mut self, iptr: u32)
-        ensures { self.new ≡ saved M.access iptr self.old }
+        requires { storable M.access self.old.memory (below self.old.wptr 4) ≡ None }
+        ensures value { self.new ≡ saved M.access iptr self.old }
+        ensures extents { SameExtents M.access self.old.memory self.new.memory }
     {
-        self.store(below(self.wptr, 4), iptr);
+        self.store(below(self.registers.wptr, 4), iptr);
     }
 
     /// The refusal of what `enqueue` stores.
@@ -82,26 +92,28 @@ impl<M: Space> Cpu<M> {
     pub(crate) fn enqueue_refusal(&self) -> Option<Touch>
         ensures { result ≡ enqueue_refusal M.access self.now.memory self.now.front self.now.back }
     {
-        match self.front {
+        match self.registers.front {
             Reg::Undefined | Reg::Word(NOT_PROCESS) => None,
-            Reg::Word(_) => self.storable(below(self.back, 8)),
+            Reg::Word(_) => self.storable(below(self.registers.back, 8)),
         }
     }
 
     /// Puts a process behind the back of the queue.
     #[tactic(auto, unfolding(crate::specs::Queues::enqueued))]
     pub(crate) fn enqueue(&mut self, process: u32)
-        ensures { self.new ≡ enqueued M.access process self.old }
+        requires { enqueue_refusal M.access self.old.memory self.old.front self.old.back ≡ None }
+        ensures value { self.new ≡ enqueued M.access process self.old }
+        ensures extents { SameExtents M.access self.old.memory self.new.memory }
     {
-        match self.front {
+        match self.registers.front {
             Reg::Undefined => {}
             Reg::Word(NOT_PROCESS) => {
-                self.front = Reg::Word(process);
-                self.back = process;
+                self.registers.front = Reg::Word(process);
+                self.registers.back = process;
             }
             Reg::Word(_) => {
-                self.store(below(self.back, 8), process);
-                self.back = process;
+                self.store(below(self.registers.back, 8), process);
+                self.registers.back = process;
             }
         }
     }
@@ -111,7 +123,7 @@ impl<M: Space> Cpu<M> {
     pub(crate) fn next_refusal(&self, back: u32) -> Option<Touch>
         ensures { result ≡ next_refusal M.access self.now.memory self.now.front back }
     {
-        let Reg::Word(front) = self.front else {
+        let Reg::Word(front) = self.registers.front else {
             return None;
         };
         if front == NOT_PROCESS {
@@ -128,15 +140,16 @@ impl<M: Space> Cpu<M> {
     /// Runs the next process of the queue, or becomes idle.
     #[tactic(auto, unfolding(crate::specs::Queues::next))]
     pub(crate) fn next(&mut self)
+        requires { next_refusal M.access self.old.memory self.old.front self.old.back ≡ None }
         ensures { self.new ≡ next M.access self.old }
     {
-        match self.front {
+        match self.registers.front {
             Reg::Undefined => {}
             Reg::Word(NOT_PROCESS) => {
                 self.clear();
-                self.oreg = 0;
-                self.iptr = 0;
-                self.wptr = 0;
+                self.registers.oreg = 0;
+                self.registers.iptr = 0;
+                self.registers.wptr = 0;
                 self.life = Life::Idle;
             }
             Reg::Word(front) => self.resume(front),
@@ -145,22 +158,24 @@ impl<M: Space> Cpu<M> {
 
     /// Runs the process at the front of the queue.
     fn resume(&mut self, front: u32)
+        requires { resume_refusal M.access self.old.memory front self.old.back ≡ None }
         ensures { self.new ≡ resumed M.access front self.old }
     {
         self.clear();
-        self.oreg = 0;
-        self.iptr = self.word_at(below(front, 4));
-        self.wptr = front;
-        let next = if front == self.back {
+        self.registers.oreg = 0;
+        self.registers.iptr = self.word_at(below(front, 4));
+        self.registers.wptr = front;
+        let next = if front == self.registers.back {
             NOT_PROCESS
         } else {
             self.word_at(below(front, 8))
         };
-        self.front = Reg::Word(next);
+        self.registers.front = Reg::Word(next);
     }
 
     /// Ends an instruction after which the next process runs.
     pub(crate) fn give_way(&mut self) -> Outcome
+        requires { next_refusal M.access self.old.memory self.old.front self.old.back ≡ None }
         ensures { gave_way M.access self.old ≡ record { state = self.new; outcome = result } }
     {
         self.next();
@@ -171,7 +186,7 @@ impl<M: Space> Cpu<M> {
     fn is_waiting(&self) -> bool
         ensures { result ≡ is_waiting self.now.front }
     {
-        match self.front {
+        match self.registers.front {
             Reg::Undefined => false,
             Reg::Word(front) => front != NOT_PROCESS,
         }
@@ -185,19 +200,23 @@ impl<M: Space> Cpu<M> {
         if !(self.is_waiting() && slice) {
             return None;
         }
-        let queue = first_refusal(self.enqueue_refusal(), self.next_refusal(self.wptr));
-        first_refusal(self.storable(below(self.wptr, 4)), queue)
+        let queue = first_refusal(
+            self.enqueue_refusal(),
+            self.next_refusal(self.registers.wptr),
+        );
+        first_refusal(self.storable(below(self.registers.wptr, 4)), queue)
     }
 
     /// Ends an instruction that goes on at an address, where another process may take its turn.
     #[tactic(auto, unfolding(crate::specs::Queues::timesliced))]
     pub(crate) fn go_on_or_slice(&mut self, slice: bool, iptr: u32) -> Outcome
+        requires { slice_refusal M.access slice self.old ≡ None }
         ensures { ran_or_sliced M.access slice iptr self.old ≡ record { state = self.new; outcome = result } }
     {
         let outcome = self.go_on(iptr);
         if self.is_waiting() && slice {
             self.save(iptr);
-            self.enqueue(self.wptr);
+            self.enqueue(self.registers.wptr);
             self.next();
         }
         outcome
@@ -221,7 +240,7 @@ impl<M: Space> Cpu<M> {
     fn wake_running(&mut self, process: u32)
         ensures { self.new ≡ woken_behind M.access self.old.front process self.old }
     {
-        if let Reg::Undefined = self.front {
+        if let Reg::Undefined = self.registers.front {
             self.stop(Why::Undefined);
             return;
         }
@@ -242,8 +261,8 @@ impl<M: Space> Cpu<M> {
                 self.refuse(touch);
             }
             None => {
-                self.iptr = self.word_at(below(process, 4));
-                self.wptr = process;
+                self.registers.iptr = self.word_at(below(process, 4));
+                self.registers.wptr = process;
                 self.life = Life::Running;
             }
         }

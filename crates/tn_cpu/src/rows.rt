@@ -1,7 +1,9 @@
-ghost use Rattle.std.specs.Prelude.{◌≡◌};
+ghost use Rattle.std.specs.Prelude.{◌≡◌, None};
+ghost use Rattle.tn_mem.specs.Spaces.{SameExtents};
 ghost use Rattle.tn_cpu.specs.States.{below, words_above, word_or_0};
-ghost use Rattle.tn_cpu.specs.Queues.{stored};
-ghost use Rattle.tn_cpu.specs.Rows.{frame_refusal, frame_stored, call_row, startp_row, endp_last, endp_other, endp_row, runp_row, stopp_row, is_loop_taken, loop_stored, loop_refusal, loop_end, lend_row, move_row};
+ghost use Rattle.tn_cpu.specs.Queues.{storable, stored, word_at};
+ghost use Rattle.tn_cpu.specs.Rows.{frame_refusal, frame_stored, call_row, startp_row, endp_last, endp_other, endp_row, runp_row};
+ghost use Rattle.tn_cpu.specs.Rows.{stopp_row, is_loop_taken, loop_stored, loop_refusal, loop_end, lend_row, move_row};
 
 use crate::outcomes::{Outcome, Why};
 use crate::processors::Cpu;
@@ -18,15 +20,15 @@ impl<M: Space> Cpu<M> {
     pub(crate) fn call(&mut self, operand: u32, turn: Turn) -> Outcome
         ensures { call_row M.access operand turn self.old ≡ record { state = self.new; outcome = result } }
     {
-        let frame = below(self.wptr, 16);
+        let frame = below(self.registers.wptr, 16);
         if let Some(touch) = self.frame_refusal(frame) {
             return self.refuse(touch);
         }
         self.store_frame(frame, turn.following);
-        self.wptr = frame;
-        self.a = Reg::Word(turn.following);
-        self.b = Reg::Undefined;
-        self.c = Reg::Undefined;
+        self.registers.wptr = frame;
+        self.registers.a = Reg::Word(turn.following);
+        self.registers.b = Reg::Undefined;
+        self.registers.c = Reg::Undefined;
         self.go_on(turn.following.wrapping_add(operand))
     }
 
@@ -44,12 +46,14 @@ impl<M: Space> Cpu<M> {
 
     /// Stores an address and the three registers. An undefined register is stored as 0.
     fn store_frame(&mut self, w: u32, following: u32)
-        ensures { self.new ≡ record self.old { memory = frame_stored M.access w following self.old.a self.old.b self.old.c self.old.memory } }
+        requires { frame_refusal M.access self.old.memory w ≡ None }
+        ensures { self.new
+            ≡ record self.old { memory = frame_stored M.access w following self.old.a self.old.b self.old.c self.old.memory } }
     {
         self.store(w, following);
-        self.store(words_above(w, 1), word_or_0(self.a));
-        self.store(words_above(w, 2), word_or_0(self.b));
-        self.store(words_above(w, 3), word_or_0(self.c));
+        self.store(words_above(w, 1), word_or_0(self.registers.a));
+        self.store(words_above(w, 2), word_or_0(self.registers.b));
+        self.store(words_above(w, 3), word_or_0(self.registers.c));
     }
 
     /// `startp`: a new process, whose workspace is Areg, begins Breg bytes after the next
@@ -57,8 +61,11 @@ impl<M: Space> Cpu<M> {
     pub(crate) fn startp(&mut self, turn: Turn) -> Outcome
         ensures { startp_row M.access turn self.old ≡ record { state = self.new; outcome = result } }
     {
-        let (Reg::Word(process), Reg::Word(offset), Reg::Word(_)) = (self.a, self.b, self.front)
-        else {
+        let (Reg::Word(process), Reg::Word(offset), Reg::Word(_)) = (
+            self.registers.a,
+            self.registers.b,
+            self.registers.front,
+        ) else {
             return self.stop(Why::Undefined);
         };
         let saved = below(process, 4);
@@ -76,7 +83,7 @@ impl<M: Space> Cpu<M> {
     pub(crate) fn endp(&mut self) -> Outcome
         ensures { endp_row M.access self.old ≡ record { state = self.new; outcome = result } }
     {
-        let Reg::Word(w) = self.a else {
+        let Reg::Word(w) = self.registers.a else {
             return self.stop(Why::Undefined);
         };
         if let Some(touch) = self.storable(words_above(w, 1)) {
@@ -92,6 +99,7 @@ impl<M: Space> Cpu<M> {
 
     /// `endp` of the last process.
     fn end_last(&mut self, w: u32, count: u32) -> Outcome
+        requires { storable M.access self.old.memory (words_above w 1) ≡ None }
         ensures { endp_last M.access w count self.old ≡ record { state = self.new; outcome = result } }
     {
         if let Some(touch) = self.loadable(w) {
@@ -99,19 +107,20 @@ impl<M: Space> Cpu<M> {
         }
         let iptr = self.word_at(w);
         self.lower_count(w, count);
-        self.wptr = w;
+        self.registers.wptr = w;
         self.clear();
         self.go_on(iptr)
     }
 
     /// `endp` of a process that isn't the last.
     fn end_other(&mut self, w: u32, count: u32) -> Outcome
+        requires { storable M.access self.old.memory (words_above w 1) ≡ None }
         ensures { endp_other M.access w count self.old ≡ record { state = self.new; outcome = result } }
     {
-        let Reg::Word(_) = self.front else {
+        let Reg::Word(_) = self.registers.front else {
             return self.stop(Why::Undefined);
         };
-        if let Some(touch) = self.next_refusal(self.back) {
+        if let Some(touch) = self.next_refusal(self.registers.back) {
             return self.refuse(touch);
         }
         self.lower_count(w, count);
@@ -122,7 +131,7 @@ impl<M: Space> Cpu<M> {
     pub(crate) fn runp(&mut self, turn: Turn) -> Outcome
         ensures { runp_row M.access turn self.old ≡ record { state = self.new; outcome = result } }
     {
-        let (Reg::Word(a), Reg::Word(_)) = (self.a, self.front) else {
+        let (Reg::Word(a), Reg::Word(_)) = (self.registers.a, self.registers.front) else {
             return self.stop(Why::Undefined);
         };
         if a % 4 != 1 {
@@ -140,11 +149,11 @@ impl<M: Space> Cpu<M> {
     pub(crate) fn stopp(&mut self, turn: Turn) -> Outcome
         ensures { stopp_row M.access turn self.old ≡ record { state = self.new; outcome = result } }
     {
-        let Reg::Word(_) = self.front else {
+        let Reg::Word(_) = self.registers.front else {
             return self.stop(Why::Undefined);
         };
-        let saved = self.storable(below(self.wptr, 4));
-        if let Some(touch) = first_refusal(saved, self.next_refusal(self.back)) {
+        let saved = self.storable(below(self.registers.wptr, 4));
+        if let Some(touch) = first_refusal(saved, self.next_refusal(self.registers.back)) {
             return self.refuse(touch);
         }
         self.save(turn.following);
@@ -156,7 +165,7 @@ impl<M: Space> Cpu<M> {
     pub(crate) fn lend(&mut self, turn: Turn) -> Outcome
         ensures { lend_row M.access turn self.old ≡ record { state = self.new; outcome = result } }
     {
-        let (Reg::Word(back), Reg::Word(w)) = (self.a, self.b) else {
+        let (Reg::Word(back), Reg::Word(w)) = (self.registers.a, self.registers.b) else {
             return self.stop(Why::Undefined);
         };
         let refusal = first_refusal(self.loop_refusal(w), self.slice_refusal(turn.slice));
@@ -185,7 +194,10 @@ impl<M: Space> Cpu<M> {
 
     /// Stores the count of a loop, and its index where it goes on.
     fn store_loop(&mut self, w: u32, count: u32)
-        ensures { self.new ≡ record self.old { memory = loop_stored M.access w count self.old.memory } }
+        requires count { count ≡ word_at M.access self.old.memory (words_above w 1) }
+        requires tested { loop_refusal M.access w self.old.memory ≡ None }
+        ensures extents { SameExtents M.access self.old.memory self.new.memory }
+        ensures value { self.new ≡ record self.old { memory = loop_stored M.access w count self.old.memory } }
     {
         if is_loop_taken(count) {
             let index = self.word_at(w);
@@ -198,7 +210,9 @@ impl<M: Space> Cpu<M> {
 
     /// Stores a count that falls by 1, in the word after an address.
     fn lower_count(&mut self, w: u32, count: u32)
-        ensures { self.new ≡ record self.old { memory = stored M.access self.old.memory (words_above w 1) (below count 1) } }
+        requires { storable M.access self.old.memory (words_above w 1) ≡ None }
+        ensures extents { SameExtents M.access self.old.memory self.new.memory }
+        ensures value { self.new ≡ record self.old { memory = stored M.access self.old.memory (words_above w 1) (below count 1) } }
     {
         self.store(words_above(w, 1), below(count, 1));
     }
@@ -207,7 +221,11 @@ impl<M: Space> Cpu<M> {
     pub(crate) fn move_bytes(&mut self, turn: Turn) -> Outcome
         ensures { move_row M.access turn self.old ≡ record { state = self.new; outcome = result } }
     {
-        let (Reg::Word(count), Reg::Word(to), Reg::Word(from)) = (self.a, self.b, self.c) else {
+        let (Reg::Word(count), Reg::Word(to), Reg::Word(from)) = (
+            self.registers.a,
+            self.registers.b,
+            self.registers.c,
+        ) else {
             return self.stop(Why::Undefined);
         };
         match self.memory.copy(from, to, count) {

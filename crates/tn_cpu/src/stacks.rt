@@ -11,35 +11,35 @@ impl<M: Space> Cpu<M> {
     pub(crate) fn push(&mut self, word: u32)
         ensures { self.new ≡ pushed word self.old }
     {
-        self.c = self.b;
-        self.b = self.a;
-        self.a = Reg::Word(word);
+        self.registers.c = self.registers.b;
+        self.registers.b = self.registers.a;
+        self.registers.a = Reg::Word(word);
     }
 
     /// Takes the top away.
     pub(crate) fn pop(&mut self)
         ensures { self.new ≡ popped self.old }
     {
-        self.a = self.b;
-        self.b = self.c;
-        self.c = Reg::Undefined;
+        self.registers.a = self.registers.b;
+        self.registers.b = self.registers.c;
+        self.registers.c = Reg::Undefined;
     }
 
     /// Takes the upper two away.
     pub(crate) fn pop_twice(&mut self)
         ensures { self.new ≡ popped_twice self.old }
     {
-        self.a = self.c;
-        self.b = Reg::Undefined;
-        self.c = Reg::Undefined;
+        self.registers.a = self.registers.c;
+        self.registers.b = Reg::Undefined;
+        self.registers.c = Reg::Undefined;
     }
 
     /// Leaves all three undefined.
     pub(crate) fn clear(&mut self)
         ensures { self.new ≡ cleared self.old }
     {
-        self.a = Reg::Undefined;
-        self.b = Reg::Undefined;
-        self.c = Reg::Undefined;
+        self.registers.a = Reg::Undefined;
+        self.registers.b = Reg::Undefined;
+        self.registers.c = Reg::Undefined;
     }
 }

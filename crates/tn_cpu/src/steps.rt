@@ -25,7 +25,7 @@ impl<M: Space> Cpu<M> {
         ensures transfer { OpensLink result }
         ensures stray { IsNotStray result }
     {
-        match self.memory.byte(self.iptr) {
+        match self.memory.byte(self.registers.iptr) {
             Ok(byte) => self.execute_byte(byte, busy, slice, clock),
             Err(touch) => self.refuse(touch),
         }
@@ -36,11 +36,11 @@ impl<M: Space> Cpu<M> {
     fn execute_byte(&mut self, byte: u8, busy: u8, slice: bool, clock: u32) -> Outcome
         ensures { execute_byte M.access byte busy slice clock self.old ≡ record { state = self.new; outcome = result } }
     {
-        let following = self.iptr.wrapping_add(1);
+        let following = self.registers.iptr.wrapping_add(1);
         let fun = fun_of(byte);
         if is_prefix(fun) {
-            self.oreg = operand_after(self.oreg, byte);
-            self.iptr = following;
+            self.registers.oreg = operand_after(self.registers.oreg, byte);
+            self.registers.iptr = following;
             return Outcome::Prefix;
         }
         let turn = Turn {
@@ -49,6 +49,6 @@ impl<M: Space> Cpu<M> {
             slice,
             clock,
         };
-        self.apply(fun, loaded(self.oreg, byte), turn)
+        self.apply(fun, loaded(self.registers.oreg, byte), turn)
     }
 }
