@@ -123,7 +123,19 @@ module _ {M N : Type 0} (access : Access M) (guard : Access N) (Like : M → N �
   copy-follows : (from to k : ℕ) → AnswersLike Like (access.copy m from to k) (guard.copy u.memory from to k)
   copy-follows from to k = sim.copy m u.memory from to k like
 
-  ruleset ways = (word, value, made, outside, either, set_error, byte-follows, set_byte-follows, word-follows, set_word-follows, copy-follows)
+  ruleset ways = (
+    word,
+    value,
+    made,
+    outside,
+    either,
+    set_error,
+    byte-follows,
+    set_byte-follows,
+    word-follows,
+    set_word-follows,
+    copy-follows,
+  )
 
   -- ---- tests of words
 
