@@ -4,12 +4,13 @@ use Rattle.std.proofs.Common.{List, [], ◌∷◌, ◌++◌, length, map, arith,
 use Rattle.std.proofs.lemmas.Bool.Decides.{nat_tests}
 use Rattle.std.specs.List.{list_all}
 use Rattle.tn_net.specs.RawNetworks.{RawLists}
-use Rattle.tn_net.specs.Lines.{size_at, IsSize, HasLinks, DifferInNumber, IsAdmitted, line_at, wire_line, host_lines}
+use Rattle.tn_mem.specs.Sizes.{IsMemorySize}
+use Rattle.tn_net.specs.Lines.{size_at, HasLinks, DifferInNumber, IsAdmitted, line_at, wire_line, host_lines}
 use Rattle.tn_machine_cases.specs.Admission.{has_size, has_links, is_apart, are_apart, host_fits, passes}
 
 -- the sizes of memories
 sizes : (names : List (List ℕ × ℕ × ℕ)) → list_all has_size names ≡ true
-    → (p : ℕ) → p < length names → IsSize (size_at names p)
+    → (p : ℕ) → p < length names → IsMemorySize (size_at names p)
 sizes [] fit p h = omega (arith, h)
 sizes (n ∷ names) fit zero h = grind (arith, nat_tests)
 sizes (n ∷ names) fit (suc p) h = sizes names (grind (arith, nat_tests)) p (omega (arith, h))
