@@ -147,12 +147,14 @@ three_read : {A B C : Type 0} (k : Keyword) (ts : List (List ℕ)) (p : List ℕ
     → ((a : A) (b : B) (c : C) → keyword_of (make a b c) ≡ k) → GoodArguments k ts ⊎ WrongArguments k ts
 unfolding three_of
 three_read k [] p q r make is are says kind = refused k [] (Err (bare BadLine)) (three_places p q r) (bare BadLine) is are refl refl
-three_read k (t ∷ []) p q r make is are says kind = refused k (t ∷ []) (Err (bare BadLine)) (three_places p q r) (bare BadLine) is are refl refl
+three_read k (t ∷ []) p q r make is are says kind =
+    refused k (t ∷ []) (Err (bare BadLine)) (three_places p q r) (bare BadLine) is are refl refl
 three_read k (t ∷ u ∷ []) p q r make is are says kind =
     refused k (t ∷ u ∷ []) (Err (bare BadLine)) (three_places p q r) (bare BadLine) is are refl refl
 three_read {A} {B} {C} k (t ∷ u ∷ v ∷ []) p q r make is are says kind = at (p t) refl (q u) refl (r v) refl
   where
-    no : (cause : Cause) → three_of p q r make (t ∷ u ∷ v ∷ []) ≡ Err cause → first_refusal (three_places p q r) (t ∷ u ∷ v ∷ []) ≡ Some cause
+    no : (cause : Cause) → three_of p q r make (t ∷ u ∷ v ∷ []) ≡ Err cause
+        → first_refusal (three_places p q r) (t ∷ u ∷ v ∷ []) ≡ Some cause
         → GoodArguments k (t ∷ u ∷ v ∷ []) ⊎ WrongArguments k (t ∷ u ∷ v ∷ [])
     no cause e w =
         refused k (t ∷ u ∷ v ∷ []) (three_of p q r make (t ∷ u ∷ v ∷ [])) (three_places p q r) cause is are e
@@ -179,14 +181,16 @@ four_read : {A B C D : Type 0} (k : Keyword) (ts : List (List ℕ)) (p : List �
     → ((a : A) (b : B) (c : C) (d : D) → keyword_of (make a b c d) ≡ k) → GoodArguments k ts ⊎ WrongArguments k ts
 unfolding four_of
 four_read k [] p q r s make is are says kind = refused k [] (Err (bare BadLine)) (four_places p q r s) (bare BadLine) is are refl refl
-four_read k (t ∷ []) p q r s make is are says kind = refused k (t ∷ []) (Err (bare BadLine)) (four_places p q r s) (bare BadLine) is are refl refl
+four_read k (t ∷ []) p q r s make is are says kind =
+    refused k (t ∷ []) (Err (bare BadLine)) (four_places p q r s) (bare BadLine) is are refl refl
 four_read k (t ∷ u ∷ []) p q r s make is are says kind =
     refused k (t ∷ u ∷ []) (Err (bare BadLine)) (four_places p q r s) (bare BadLine) is are refl refl
 four_read k (t ∷ u ∷ v ∷ []) p q r s make is are says kind =
     refused k (t ∷ u ∷ v ∷ []) (Err (bare BadLine)) (four_places p q r s) (bare BadLine) is are refl refl
 four_read {A} {B} {C} {D} k (t ∷ u ∷ v ∷ w ∷ []) p q r s make is are says kind = at (p t) refl (q u) refl (r v) refl (s w) refl
   where
-    no : (cause : Cause) → four_of p q r s make (t ∷ u ∷ v ∷ w ∷ []) ≡ Err cause → first_refusal (four_places p q r s) (t ∷ u ∷ v ∷ w ∷ []) ≡ Some cause
+    no : (cause : Cause) → four_of p q r s make (t ∷ u ∷ v ∷ w ∷ []) ≡ Err cause
+        → first_refusal (four_places p q r s) (t ∷ u ∷ v ∷ w ∷ []) ≡ Some cause
         → GoodArguments k (t ∷ u ∷ v ∷ w ∷ []) ⊎ WrongArguments k (t ∷ u ∷ v ∷ w ∷ [])
     no cause e f =
         refused k (t ∷ u ∷ v ∷ w ∷ []) (four_of p q r s make (t ∷ u ∷ v ∷ w ∷ [])) (four_places p q r s) cause is are e
