@@ -1,0 +1,11 @@
+pub mod Arguments
+pub mod Lines
+pub mod Collected
+pub mod Steps
+pub mod Arranging
+pub mod Beginnings
+pub mod Runs
+pub mod ConfigLaws
+pub mod ReadLoop
+pub mod Described
+pub mod Words

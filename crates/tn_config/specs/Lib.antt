@@ -1,0 +1,10 @@
+pub mod Keywords
+pub mod Places
+pub mod Statements
+pub mod Configurations
+pub mod Parts
+pub mod SoFar
+pub mod ConfigFaults
+pub mod ConfigReading
+pub mod Inner
+pub mod Networks
