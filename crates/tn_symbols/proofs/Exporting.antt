@@ -1,5 +1,6 @@
 -- The first of modules that exports a name.
-use Rattle.std.proofs.Common.{◌≡◌, ℕ, ◌+◌, ◌<◌, ◌≤◌, inl, inr, Bool, true, false, ◌||◌, not, cond, nat_eq, zero, suc, List, [], ◌∷◌, ◌++◌, length, get_or, map, Option, Some, None, is_some, refl, sym, ap, ◌∙◌, subst, arith, position, if◌then◌else◌}
+use Rattle.std.proofs.Common.{◌≡◌, ℕ, ◌+◌, ◌<◌, ◌≤◌, inl, inr, Bool, true, false, ◌||◌, not, cond, nat_eq, zero, suc, List, [], ◌∷◌, ◌++◌}
+use Rattle.std.proofs.Common.{length, get_or, map, Option, Some, None, is_some, refl, sym, ap, ◌∙◌, subst, arith, position, if◌then◌else◌}
 use Rattle.std.specs.Option.{option_or, option_map}
 use Rattle.std.specs.List.{list_any, position_or_len}
 use Rattle.std.specs.Prelude.{nat_lt}
@@ -43,7 +44,8 @@ within p (x ∷ xs) = by (p x) refl (within p xs)
   where
     by : (b : Bool) → p x ≡ b → position_or_len p xs ≤ length xs → position_or_len p (x ∷ xs) ≤ length (x ∷ xs)
     by true e h = let is : position_or_len p (x ∷ xs) ≡ 0 = ap (λ b. cond (not b) (1 + position_or_len p xs) 0) e in omega (arith, is)
-    by false e h = let is : position_or_len p (x ∷ xs) ≡ 1 + position_or_len p xs = ap (λ b. cond (not b) (1 + position_or_len p xs) 0) e in omega (arith, is)
+    by false e h = let is : position_or_len p (x ∷ xs) ≡ 1 + position_or_len p xs = ap (λ b. cond (not b) (1 + position_or_len p xs) 0) e
+        in omega (arith, is)
 
 -- one more element
 position-push : {X : Type 0} (p : X → Bool) (xs : List X) (y : X)
@@ -52,7 +54,8 @@ position-push p xs y = elim (cases_lt (position_or_len p xs) (length xs)) [
   | inl l ↦
       (let k : position_or_len p (xs ++ y ∷ []) ≡ position_or_len p xs =
       position_or_len_push p xs y
-      ∙ ap (λ b. cond b (length xs + cond (p y) 0 1) (position_or_len p xs)) (ne_eqb (position_or_len p xs) (length xs) (λ e. omega (arith, l, e))) in
+      ∙ ap (λ b. cond b (length xs + cond (p y) 0 1) (position_or_len p xs))
+      (ne_eqb (position_or_len p xs) (length xs) (λ e. omega (arith, l, e))) in
       found (position_or_len p (xs ++ y ∷ [])) (length (xs ++ y ∷ [])) (omega (arith, k, l, length_push xs y))
       ∙ ap Some k
       ∙ ap (λ o. option_or o (if p y then Some (length xs) else None)) (sym (found (position_or_len p xs) (length xs) l)))
@@ -81,22 +84,26 @@ module _ (stock : List Parts) where
       → (k : ℕ) × (k ≤ j) × (first_exporter stock name ≡ Some k)
   exporter-upto name j h t = position-at (λ m. is_among m.exports name) stock j none h t
 
-  pub exporter-is : (name : List ℕ) (k : ℕ) → first_exporter stock name ≡ Some k → (k < length stock) × (is_among (module_at stock k).exports name ≡ true)
+  pub exporter-is : (name : List ℕ) (k : ℕ) → first_exporter stock name ≡ Some k → (k < length stock)
+      × (is_among (module_at stock k).exports name ≡ true)
   exporter-is name k e = let f = position-Some (λ m. is_among m.exports name) stock k none e in (f.0, f.1)
 
   pub exporter-more : (name : List ℕ) (m : Parts)
-      → first_exporter (stock ++ m ∷ []) name ≡ option_or (first_exporter stock name) (if is_among m.exports name then Some (length stock) else None)
+      → first_exporter (stock ++ m ∷ []) name ≡ option_or (first_exporter stock name)
+      (if is_among m.exports name then Some (length stock) else None)
   exporter-more name m = position-push (λ m. is_among m.exports name) stock m
 
 -- a name among those that pass a test, and back
-pub any-name : (p : List ℕ → Bool) (names : List (List ℕ)) → list_any p names ≡ true → (name : List ℕ) × (p name ≡ true) × (is_among names name ≡ true)
+pub any-name : (p : List ℕ → Bool) (names : List (List ℕ)) → list_any p names ≡ true → (name : List ℕ) × (p name ≡ true)
+    × (is_among names name ≡ true)
 any-name p [] h = absurd cc
 any-name p (x ∷ xs) h = elim (either (p x) (list_any p xs) h) [
   | inl e ↦ (x, e, or-left (same_name x x) (is_among xs x) (same-itself x))
   | inr r ↦ (let f = any-name p xs r in (f.0, f.1, or-right (same_name f.0 x) (is_among xs f.0) f.2))
 ]
 
-pub any-from_name : (p : List ℕ → Bool) (names : List (List ℕ)) (name : List ℕ) → p name ≡ true → is_among names name ≡ true → list_any p names ≡ true
+pub any-from_name : (p : List ℕ → Bool) (names : List (List ℕ)) (name : List ℕ) → p name ≡ true → is_among names name ≡ true
+    → list_any p names ≡ true
 any-from_name p [] name e h = absurd cc
 any-from_name p (x ∷ xs) name e h = elim (either (same_name name x) (is_among xs name) h) [
   | inl s ↦ or-left (p x) (list_any p xs) (ap p (sym (same-names name x s)) ∙ e)
@@ -108,12 +115,15 @@ pub exported-more : (ms : List Parts) (m : Parts) → exported (ms ++ m ∷ []) 
 exported-more ms m = flat_map-append (λ (m : Parts). m.exports) ms (m ∷ []) ∙ ap (λ l. exported ms ++ l) (append-nil m.exports)
 
 pub imported-more : (ms : List Parts) (m : Parts) → imported (ms ++ m ∷ []) ≡ imported ms ++ import_names m.imports
-imported-more ms m = flat_map-append (λ (m : Parts). import_names m.imports) ms (m ∷ []) ∙ ap (λ l. imported ms ++ l) (append-nil (import_names m.imports))
+imported-more ms m = flat_map-append (λ (m : Parts). import_names m.imports) ms (m ∷ [])
+    ∙ ap (λ l. imported ms ++ l) (append-nil (import_names m.imports))
 
 -- what a module of the list exports is exported
-pub exported-at : (ms : List Parts) (k : ℕ) (name : List ℕ) → is_among (module_at ms k).exports name ≡ true → is_among (exported ms) name ≡ true
+pub exported-at : (ms : List Parts) (k : ℕ) (name : List ℕ) → is_among (module_at ms k).exports name ≡ true → is_among (exported ms) name
+    ≡ true
 exported-at [] k name h = absurd cc
-exported-at (m ∷ ms) zero name h = among-append m.exports (exported ms) name ∙ or-left (is_among m.exports name) (is_among (exported ms) name) h
+exported-at (m ∷ ms) zero name h = among-append m.exports (exported ms) name
+    ∙ or-left (is_among m.exports name) (is_among (exported ms) name) h
 exported-at (m ∷ ms) (suc k) name h =
     among-append m.exports (exported ms) name ∙ or-right (is_among m.exports name) (is_among (exported ms) name) (exported-at ms k name h)
 
@@ -161,9 +171,11 @@ defined-some ms name = by (first_exporter ms name) refl (is_among (exported ms) 
 -- the definitions of one more module
 pub definition-more : (ms : List Parts) (m : Parts) (name : List ℕ)
     → definition_of (ms ++ m ∷ []) name
-    ≡ option_or (definition_of ms name) (if is_among m.exports name then Some (record { «module» = length ms; kind = kind_of m name }) else None)
+    ≡ option_or (definition_of ms name) (if is_among m.exports name then Some (record { «module» = length ms; kind = kind_of m name })
+    else None)
 definition-more ms m name =
-    ap (option_map (definition_in (ms ++ m ∷ []) name)) (exporter-more ms name m) ∙ by (first_exporter ms name) refl (is_among m.exports name)
+    ap (option_map (definition_in (ms ++ m ∷ []) name)) (exporter-more ms name m)
+    ∙ by (first_exporter ms name) refl (is_among m.exports name)
   where
     by : (o : Option ℕ) → first_exporter ms name ≡ o → (b : Bool)
         → option_map (definition_in (ms ++ m ∷ []) name) (option_or (first_exporter ms name) (if b then Some (length ms) else None))
@@ -177,11 +189,14 @@ definition-more ms m name =
         ∙ ap (λ o. option_or (option_map (definition_in ms name) o) None) (sym o)
     by (Some k) o b =
         ap (λ o. option_map (definition_in (ms ++ m ∷ []) name) (option_or o (if b then Some (length ms) else None))) o
-        ∙ ap (λ x. Some (record { «module» = k; kind = kind_of x name })) (get_or_append_left ms (m ∷ []) none k (exporter-is ms name k o).0)
-        ∙ ap (λ o. option_or (option_map (definition_in ms name) o) (if b then Some (record { «module» = length ms; kind = kind_of m name }) else None)) (sym o)
+        ∙ ap (λ x. Some (record { «module» = k; kind = kind_of x name }))
+        (get_or_append_left ms (m ∷ []) none k (exporter-is ms name k o).0)
+        ∙ ap (λ o. option_or (option_map (definition_in ms name) o)
+        (if b then Some (record { «module» = length ms; kind = kind_of m name }) else None)) (sym o)
 
 -- the first definition is found, or there is none
-pub definition-here : (ms : List Parts) (name : List ℕ) (k : ℕ) → k < length ms → ((j : ℕ) → j < k → is_among (module_at ms j).exports name ≡ false)
+pub definition-here : (ms : List Parts) (name : List ℕ) (k : ℕ) → k < length ms
+    → ((j : ℕ) → j < k → is_among (module_at ms j).exports name ≡ false)
     → is_among (module_at ms k).exports name ≡ true → definition_of ms name ≡ Some (definition_in ms name k)
 definition-here ms name k h before here =
     let f = exporter-upto ms name k h here in

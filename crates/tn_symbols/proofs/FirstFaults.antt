@@ -1,5 +1,6 @@
 -- What is wrong first with the names of modules.
-use Rattle.std.proofs.Common.{◌≡◌, ℕ, ◌+◌, ◌<◌, ◌≤◌, inl, inr, Bool, true, false, List, [], length, get_or, take, Option, Some, None, is_some, refl, sym, ap, ◌∙◌, subst, arith, if◌then◌else◌}
+use Rattle.std.proofs.Common.{◌≡◌, ℕ, ◌+◌, ◌<◌, ◌≤◌, inl, inr, Bool, true, false, List, [], length, get_or, take, Option, Some, None}
+use Rattle.std.proofs.Common.{is_some, refl, sym, ap, ◌∙◌, subst, arith, if◌then◌else◌}
 use Rattle.std.specs.Prelude.{slice_get, option_and_then}
 use Rattle.std.proofs.lemmas.Bool.{cases_lt}
 use Rattle.std.proofs.lemmas.List.{get_or_past, get_or_read}
@@ -32,7 +33,8 @@ module _ {X : Type 0} (f : X → Option ChooseFault) (xs : List X) where
 pub none-at : (at : ℕ → Option ChooseFault) (n : ℕ) → ((i : ℕ) → i < n → at i ≡ None) → ((i : ℕ) → n ≤ i → at i ≡ None) → NoneAt at
 none-at at n below past i = elim (cases_lt i n) [ inl l ↦ below i l | inr h ↦ past i h ]
 
-pub found-same : (at these : ℕ → Option ChooseFault) → ((i : ℕ) → at i ≡ these i) → (r : Option ChooseFault) → IsFound at r → IsFound these r
+pub found-same : (at these : ℕ → Option ChooseFault) → ((i : ℕ) → at i ≡ these i) → (r : Option ChooseFault) → IsFound at r
+    → IsFound these r
 found-same at these same None h = λ i. sym (same i) ∙ h i
 found-same at these same (Some fault) h =
     record { index = h.index; here = sym (same h.index) ∙ h.here; before = λ i l. sym (same i) ∙ h.before i l }
@@ -46,7 +48,8 @@ module _ (at : ℕ → ℕ → Option ChooseFault) (m : ℕ) (below : (k i : ℕ
   pub none-more : (r : Option ChooseFault) → r ≡ None → IsFound (at m) r → (k i : ℕ) → k < m + 1 → at k i ≡ None
   none-more r is h k i l = elim (cases_lt k m) [
     | inl b ↦ below k i b
-    | inr over ↦ (let same : m ≡ k = omega arith in let all : NoneAt (at m) = subst (IsFound (at m)) is h in ap (λ j. at j i) (sym same) ∙ all i)
+    | inr over ↦ (let same : m ≡ k = omega arith in let all : NoneAt (at m) = subst (IsFound (at m)) is h in ap (λ j. at j i) (sym same)
+        ∙ all i)
   ]
 
   pub none-in : ((k i : ℕ) → m ≤ k → at k i ≡ None) → AllNone at
@@ -55,15 +58,18 @@ module _ (at : ℕ → ℕ → Option ChooseFault) (m : ℕ) (below : (k i : ℕ
 module _ (modules : List Parts) where
   -- behind the modules nothing is wrong
   pub exports-past : (m i : ℕ) → length modules ≤ m → fault_at modules (ExportAt m i) ≡ None
-  exports-past m i h = at-past _ (module_at modules m).exports i (subst (λ x. length x.exports ≤ i) (sym (get_or_past modules m none h)) (omega arith))
+  exports-past m i h = at-past _ (module_at modules m).exports i
+      (subst (λ x. length x.exports ≤ i) (sym (get_or_past modules m none h)) (omega arith))
 
   pub imports-past : (m i : ℕ) → length modules ≤ m → fault_at modules (ImportAt m i) ≡ None
-  imports-past m i h = at-past _ (module_at modules m).imports i (subst (λ x. length x.imports ≤ i) (sym (get_or_past modules m none h)) (omega arith))
+  imports-past m i h = at-past _ (module_at modules m).imports i
+      (subst (λ x. length x.imports ≤ i) (sym (get_or_past modules m none h)) (omega arith))
 
   -- exports and imports by what the code knows of names
   pub exports-same : (m : ℕ) (exports : List (List ℕ)) (known : List ℕ → Option Definition) → exports ≡ (module_at modules m).exports
       → ((name : List ℕ) → known name ≡ definition_of (take m modules) name) → (i : ℕ)
-      → option_and_then (λ name. if is_some (known name) then Some (Duplicate m i) else None) (slice_get exports i) ≡ fault_at modules (ExportAt m i)
+      → option_and_then (λ name. if is_some (known name) then Some (Duplicate m i) else None) (slice_get exports i)
+      ≡ fault_at modules (ExportAt m i)
   exports-same m exports known is knows i =
       ap (λ l. option_and_then (λ name. if is_some (known name) then Some (Duplicate m i) else None) (slice_get l i)) is
       ∙ by (slice_get (module_at modules m).exports i)
@@ -121,7 +127,8 @@ module _ (modules : List Parts) where
       right d true e = refl
       right d false e = absurd (none-some (WrongKind m i) (sym e))
 
-      by : (o : Option Definition) → definition_of modules import.name ≡ o → import_fault m i import.kind o ≡ None → IsDefined modules import
+      by : (o : Option Definition) → definition_of modules import.name ≡ o → import_fault m i import.kind o ≡ None
+          → IsDefined modules import
       by None is e = absurd (none-some (Undefined m i) (sym e))
       by (Some d) is e = record { definition = d; found = is; kind = right d (same_kind d.kind import.kind) e }
 
@@ -138,6 +145,7 @@ fault-if P (WrongKind m i) p = p
 fault-if P NoMemory p = tt
 
 -- the part of the module at a place of the list
-pub part-at : {X : Type 0} (f : Parts → X) (modules : List Parts) (m : ℕ) (y x : Parts) → m < length modules → x ≡ get_or modules m x → y ≡ x
+pub part-at : {X : Type 0} (f : Parts → X) (modules : List Parts) (m : ℕ) (y x : Parts) → m < length modules → x ≡ get_or modules m x → y
+    ≡ x
     → f y ≡ f (module_at modules m)
 part-at f modules m y x h is same = ap f (same ∙ get_or_read modules m x h is none)

@@ -1,5 +1,6 @@
 -- Picks, one after the other.
-use Rattle.std.proofs.Common.{◌≡◌, ℕ, ◌+◌, ◌<◌, ◌≤◌, Bool, true, false, not, ◌&&◌, ◌||◌, cond, nat_eq, List, [], ◌∷◌, ◌++◌, length, map, Option, Some, None, refl, sym, ap, ◌∙◌, subst, arith, append_assoc, if◌then◌else◌}
+use Rattle.std.proofs.Common.{◌≡◌, ℕ, ◌+◌, ◌<◌, ◌≤◌, Bool, true, false, not, ◌&&◌, ◌||◌, cond, nat_eq, List, [], ◌∷◌, ◌++◌, length, map}
+use Rattle.std.proofs.Common.{Option, Some, None, refl, sym, ap, ◌∙◌, subst, arith, append_assoc, if◌then◌else◌}
 use Rattle.std.specs.List.{list_any}
 use Rattle.std.specs.Ordering.{nat_cmp, eq_by_cmp, is_gt}
 use Rattle.std.proofs.lemmas.Map.Keys.{le_from_not_gt}
@@ -18,7 +19,8 @@ use Rattle.tn_symbols.specs.Inner.Tables.{missing, Wants, AreWanted, WantsMore}
 use Rattle.tn_symbols.proofs.NameLists.{or-right, neither, not-both}
 use Rattle.tn_symbols.proofs.OneChoice.{Grows, grown, few, none_picked}
 use Rattle.tn_symbols.proofs.Wanting.{wanted-more}
-use Rattle.tn_symbols.proofs.Exporting.{exporter-upto, exporter-is, any-name, any-from_name, exported-more, imported-more, exported-picked, exported-append}
+use Rattle.tn_symbols.proofs.Exporting.{exporter-upto, exporter-is, any-name, any-from_name, exported-more, imported-more}
+use Rattle.tn_symbols.proofs.Exporting.{exported-picked, exported-append}
 
 -- the modules that are picked so far, the names that they and the named ones export, and the places
 -- where what they lack is found
@@ -37,7 +39,8 @@ missing-is first names name p h = by (is_among names name) h
     by true h = absurd (none-some p h)
     by false h = (refl, h)
 
-pub missing-from : (first : List ℕ → Option ℕ) (names : List (List ℕ)) (name : List ℕ) (p : ℕ) → is_among names name ≡ false → first name ≡ Some p
+pub missing-from : (first : List ℕ → Option ℕ) (names : List (List ℕ)) (name : List ℕ) (p : ℕ) → is_among names name ≡ false → first name
+    ≡ Some p
     → missing first names name ≡ Some p
 missing-from first names name p h e = ap (λ b. if b then None else first name) h ∙ e
 
@@ -106,10 +109,12 @@ module _ (named stock : List Parts) (first : List ℕ → Option ℕ) (is_first 
         wanted : is_wanted so_far (module_at stock k) ≡ true
         wanted =
             any-from_name (is_lacking so_far) (module_at stock k).exports (s.wanted.only k h).name
-            (lacking (is_among (imported so_far) (s.wanted.only k h).name) (is_among (exported so_far) (s.wanted.only k h).name) (s.wanted.only k h).among lacked) e.1
+            (lacking (is_among (imported so_far) (s.wanted.only k h).name) (is_among (exported so_far) (s.wanted.only k h).name)
+            (s.wanted.only k h).among lacked) e.1
 
         new : (b : Bool) → list_any (nat_eq k) picks ≡ b → b ≡ false
-        new true p = not-both (is_among (exported so_far) (s.wanted.only k h).name) (picked-exported k (s.wanted.only k h).name p e.1) lacked
+        new true p = not-both (is_among (exported so_far) (s.wanted.only k h).name) (picked-exported k (s.wanted.only k h).name p e.1)
+            lacked
         new false p = refl
 
     -- where no place is wanted the choice is complete
@@ -133,10 +138,12 @@ module _ (named stock : List Parts) (first : List ℕ → Option ℕ) (is_first 
       picks' = picks ++ k ∷ []
 
       more : with_picks named stock picks' ≡ so_far ++ m ∷ []
-      more = ap (λ l. named ++ l) (map-append (module_at stock) picks (k ∷ [])) ∙ sym (append_assoc named (map (module_at stock) picks) (m ∷ []))
+      more = ap (λ l. named ++ l) (map-append (module_at stock) picks (k ∷ []))
+          ∙ sym (append_assoc named (map (module_at stock) picks) (m ∷ []))
 
       unnamed : (name : List ℕ) → is_among names' name ≡ false → (is_among names name ≡ false) × (is_among m.exports name ≡ false)
-      unnamed name h = neither (is_among names name) (is_among m.exports name) (sym (among-append names m.exports name) ∙ sym (added.same name) ∙ h)
+      unnamed name h = neither (is_among names name) (is_among m.exports name)
+          (sym (among-append names m.exports name) ∙ sym (added.same name) ∙ h)
 
       -- the places that are left are those where the names before are found
       still : AreWanted left (missing first names') (imported so_far)
@@ -153,9 +160,11 @@ module _ (named stock : List Parts) (first : List ℕ → Option ℕ) (is_first 
 
               apart : (b : Bool) → eq_by_cmp nat_cmp k p ≡ b → b ≡ false
               apart true e =
-                  let there : is_among (module_at stock p).exports w.name ≡ true = (exporter-is stock w.name p (sym (is_first w.name) ∙ is.1)).1 in
+                  let there : is_among (module_at stock p).exports w.name
+                  ≡ true = (exporter-is stock w.name p (sym (is_first w.name) ∙ is.1)).1 in
                   not-both (is_among m.exports w.name)
-                  (subst (λ q. is_among (module_at stock q).exports w.name ≡ true) (sym (tells_apart exact_unsigned k p e)) there) (unnamed w.name is.0).1
+                  (subst (λ q. is_among (module_at stock q).exports w.name ≡ true) (sym (tells_apart exact_unsigned k p e)) there)
+                  (unnamed w.name is.0).1
               apart false e = refl
 
           kept : (b c : Bool) → cond b false c ≡ true → (b ≡ false) × (c ≡ true)
@@ -163,7 +172,12 @@ module _ (named stock : List Parts) (first : List ℕ → Option ℕ) (is_first 
           kept false c h = (refl, h)
 
           only : (p : ℕ) → left p ≡ true → Wants (missing first names') (imported so_far) p
-          only p h = record { name = (s.wanted.only p both.1).name; among = (s.wanted.only p both.1).among; at = missing-from first names' (s.wanted.only p both.1).name p (free (is_among m.exports (s.wanted.only p both.1).name) refl) is.1 }
+          only p h = record {
+            name = (s.wanted.only p both.1).name;
+            among = (s.wanted.only p both.1).among;
+            at = missing-from first names'
+                (s.wanted.only p both.1).name p (free (is_among m.exports (s.wanted.only p both.1).name) refl) is.1;
+          }
             where
               both : (eq_by_cmp nat_cmp k p ≡ false) × (has p ≡ true)
               both = kept (eq_by_cmp nat_cmp k p) (has p) (sym (popped p) ∙ h)
@@ -171,7 +185,8 @@ module _ (named stock : List Parts) (first : List ℕ → Option ℕ) (is_first 
               is : (is_among names (s.wanted.only p both.1).name ≡ false) × (first (s.wanted.only p both.1).name ≡ Some p)
               is = missing-is first names (s.wanted.only p both.1).name p (s.wanted.only p both.1).at
 
-              free : (b : Bool) → is_among m.exports (s.wanted.only p both.1).name ≡ b → is_among names' (s.wanted.only p both.1).name ≡ false
+              free : (b : Bool) → is_among m.exports (s.wanted.only p both.1).name ≡ b → is_among names' (s.wanted.only p both.1).name
+                  ≡ false
               free true e =
                   let f = exporter-upto stock (s.wanted.only p both.1).name k (wanted-here k here) e in
                   let same : f.0 ≡ p = same_Some f.0 p (sym f.2 ∙ sym (is_first (s.wanted.only p both.1).name) ∙ is.1) in
@@ -181,7 +196,8 @@ module _ (named stock : List Parts) (first : List ℕ → Option ℕ) (is_first 
                   alike : (a b : ℕ) → a ≡ b → eq_by_cmp nat_cmp a b ≡ true
                   alike a b e = subst (λ c. eq_by_cmp nat_cmp a c ≡ true) e ((eq_by_cmp_equiv nat_cmp_total).refl a)
               free false e =
-                  added.same (s.wanted.only p both.1).name ∙ among-append names m.exports (s.wanted.only p both.1).name ∙ ap (λ b. b || is_among m.exports (s.wanted.only p both.1).name) is.0 ∙ e
+                  added.same (s.wanted.only p both.1).name ∙ among-append names m.exports (s.wanted.only p both.1).name
+                  ∙ ap (λ b. b || is_among m.exports (s.wanted.only p both.1).name) is.0 ∙ e
 
       -- one more is picked
       pub picked : (new : ℕ → Bool) → WantsMore left new (missing first names') (import_names m.imports)
@@ -199,7 +215,8 @@ module _ (named stock : List Parts) (first : List ℕ → Option ℕ) (is_first 
           }
 
       pub one-more : length picks + 1 ≤ length stock
-      one-more = let f = few named stock picks' (grown named stock picks k s.grows (wanted-next k here least)) in omega (arith, f, length_push picks k)
+      one-more = let f = few named stock picks' (grown named stock picks k s.grows (wanted-next k here least)) in omega
+          (arith, f, length_push picks k)
 
   -- nothing is picked at first
   pub none-picked : (picks : List ℕ) (names : List (List ℕ)) (has : ℕ → Bool) → picks ≡ [] → HaveSameNames names (exported named)

@@ -1,31 +1,36 @@
 -- Sources, and the modules that they tell.
-use Rattle.std.proofs.Common.{◌≡◌, ℕ, ◌+◌, ◌<◌, ◌≤◌, ◌^◌, ◌⊎◌, inl, inr, List, [], ◌∷◌, ◌++◌, length, get_or, map, Option, Some, None, refl, sym, ap, ◌∙◌, subst, arith, append_assoc}
+use Rattle.std.proofs.Common.{◌≡◌, ℕ, ◌+◌, ◌<◌, ◌≤◌, ◌^◌, ◌⊎◌, inl, inr, List, [], ◌∷◌, ◌++◌, length, get_or, map, Option, Some, None}
+use Rattle.std.proofs.Common.{refl, sym, ap, ◌∙◌, subst, arith, append_assoc}
 use Rattle.std.specs.Prelude.{slice_index, slice_get, All}
 use Rattle.std.specs.List.{flat_map, range_with_len}
 use Rattle.std.specs.Option.{option_map_or}
 use Rattle.std.proofs.lemmas.List.{append-nil, length-map, length-append}
 use Rattle.std.proofs.lemmas.List.Concat.{flat_map-append}
 use Rattle.std.proofs.lemmas.List.FromFn.{map-range_with_len_more, length-map-range_with_len, get_or-range_with_len, length-range_with_len}
-use Rattle.std.proofs.lemmas.List.Elements.{All-from_get_or, All-get_or, All-nil, All-append, All-map, All-head, All-tail, All-same, All-weaker}
+use Rattle.std.proofs.lemmas.List.Elements.{All-from_get_or, All-get_or, All-nil, All-append, All-map, All-head, All-tail, All-same}
+use Rattle.std.proofs.lemmas.List.Elements.{All-weaker}
 use Rattle.std.proofs.lemmas.Option.{slice_get-get_or, slice_get_cases}
 use Rattle.tn_module.specs.Modules.{Parts, IsShort}
 use Rattle.tn_module.specs.declared.modules.Library.{Library}
 use Rattle.tn_symbols.specs.declared.choices.Source.{Source}
 use Rattle.tn_symbols.specs.Choices.{module_at, IsChosen}
-use Rattle.tn_symbols.specs.Sources.{Offer, modules_at, source, sources_in, named_sources, library_sources, stock_sources, module_in, module_of, modules_of, source_at, IsChoice, IsShortLibrary, IsOffer}
+use Rattle.tn_symbols.specs.Sources.{Offer, modules_at, source, sources_in, named_sources, library_sources, stock_sources, module_in}
+use Rattle.tn_symbols.specs.Sources.{module_of, modules_of, source_at, IsChoice, IsShortLibrary, IsOffer}
 use Rattle.tn_symbols.specs.Inner.Sourcing.{IsIn, IsHere}
 use Rattle.tn_symbols.proofs.OneChoice.{chosen-few}
 
 -- one number more
 range-more : (n : ℕ) → range_with_len 0 (n + 1) ≡ range_with_len 0 n ++ n ∷ []
-range-more n = sym (mapped (range_with_len 0 (n + 1))) ∙ map-range_with_len_more (λ (k : ℕ). k) 0 n n (omega arith) ∙ ap (λ l. l ++ n ∷ []) (mapped (range_with_len 0 n))
+range-more n = sym (mapped (range_with_len 0 (n + 1))) ∙ map-range_with_len_more (λ (k : ℕ). k) 0 n n (omega arith)
+    ∙ ap (λ l. l ++ n ∷ []) (mapped (range_with_len 0 n))
   where
     mapped : (xs : List ℕ) → map (λ (k : ℕ). k) xs ≡ xs
     mapped [] = refl
     mapped (x ∷ xs) = ap (λ l. x ∷ l) (mapped xs)
 
 -- one source more
-pub sources-more : (before now new : List Source) (library : Option ℕ) (n : ℕ) → now ≡ before ++ sources_in library n → new ≡ now ++ source library n ∷ []
+pub sources-more : (before now new : List Source) (library : Option ℕ) (n : ℕ) → now ≡ before ++ sources_in library n → new
+    ≡ now ++ source library n ∷ []
     → new ≡ before ++ sources_in library (n + 1)
 sources-more before now new library n a b =
     b ∙ ap (λ l. l ++ source library n ∷ []) a
@@ -47,7 +52,8 @@ modules-here shelf u d h = ap (λ o. option_map_or (λ (l : Library). l.modules.
 
 All-flat_map : {X A : Type 0} (P : A → Type 0) (f : X → List A) (xs : List X) → All (λ x. All P (f x)) xs → All P (flat_map f xs)
 All-flat_map P f [] h = All-nil P
-All-flat_map P f (x ∷ xs) h = All-append P (f x) (flat_map f xs) (All-head (λ x. All P (f x)) x xs h) (All-flat_map P f xs (All-tail (λ x. All P (f x)) x xs h))
+All-flat_map P f (x ∷ xs) h = All-append P (f x) (flat_map f xs) (All-head (λ x. All P (f x)) x xs h)
+    (All-flat_map P f xs (All-tail (λ x. All P (f x)) x xs h))
 
 -- what holds of all numbers below n
 All-range : (P : ℕ → Type 0) (n : ℕ) → ((k : ℕ) → k < n → P k) → All P (range_with_len 0 n)
@@ -91,7 +97,8 @@ choice-here o i sources c =
 -- a module that is there has few elements
 in-short : (o : Offer) → IsOffer o → (i : ℕ) (library : Option ℕ) → IsIn o i library → IsShort (module_in o i library)
 in-short o f i None h = All-get_or IsShort o.pool (slice_index o.named i) (module_at [] 0) h.1 f.pool
-in-short o f i (Some u) h = All-get_or IsShort (modules_at o.shelf (slice_index o.used u)) i (module_at [] 0) h.2 (short (slice_get_cases o.shelf (slice_index o.used u)).1)
+in-short o f i (Some u) h = All-get_or IsShort (modules_at o.shelf (slice_index o.used u)) i (module_at [] 0) h.2
+    (short (slice_get_cases o.shelf (slice_index o.used u)).1)
   where
     short : ((x : Library) × (slice_index o.used u < length o.shelf) × (slice_get o.shelf (slice_index o.used u) ≡ Some x)
         × (get_or o.shelf (slice_index o.used u) x ≡ x)) ⊎ ((length o.shelf ≤ slice_index o.used u)

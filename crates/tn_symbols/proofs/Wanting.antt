@@ -1,5 +1,6 @@
 -- Places that are wanted, one name after the other.
-use Rattle.std.proofs.Common.{◌≡◌, ℕ, ◌+◌, ◌<◌, ◌⊎◌, inl, inr, Bool, true, false, ◌||◌, cond, List, [], ◌∷◌, ◌++◌, length, get_or, take, Option, Some, None, refl, sym, ap, ◌∙◌, subst, arith}
+use Rattle.std.proofs.Common.{◌≡◌, ℕ, ◌+◌, ◌<◌, ◌⊎◌, inl, inr, Bool, true, false, ◌||◌, cond, List, [], ◌∷◌, ◌++◌, length, get_or, take}
+use Rattle.std.proofs.Common.{Option, Some, None, refl, sym, ap, ◌∙◌, subst, arith}
 use Rattle.std.specs.List.{list_any}
 use Rattle.std.specs.Ordering.{nat_cmp, eq_by_cmp}
 use Rattle.std.specs.BTreeSet.{BTreeSet, contains}
@@ -18,17 +19,28 @@ module _ (found : List ℕ → Option ℕ) where
   -- among more names
   pub wants-left : (names more : List (List ℕ)) (p : ℕ) → Wants found names p → Wants found (names ++ more) p
   wants-left names more p w =
-      record { name = w.name; among = among-append names more w.name ∙ or-left (is_among names w.name) (is_among more w.name) w.among; at = w.at }
+      record {
+        name = w.name;
+        among = among-append names more w.name
+            ∙ or-left (is_among names w.name) (is_among more w.name) w.among;
+        at = w.at;
+      }
 
   pub wants-right : (names more : List (List ℕ)) (p : ℕ) → Wants found more p → Wants found (names ++ more) p
   wants-right names more p w =
-      record { name = w.name; among = among-append names more w.name ∙ or-right (is_among names w.name) (is_among more w.name) w.among; at = w.at }
+      record {
+        name = w.name;
+        among = among-append names more w.name
+            ∙ or-right (is_among names w.name) (is_among more w.name) w.among;
+        at = w.at;
+      }
 
   pub wants-either : (names more : List (List ℕ)) (p : ℕ) → Wants found (names ++ more) p → Wants found names p ⊎ Wants found more p
-  wants-either names more p w = elim (either (is_among names w.name) (is_among more w.name) (sym (among-append names more w.name) ∙ w.among)) [
-    | inl h ↦ inl (record { name = w.name; among = h; at = w.at })
-    | inr h ↦ inr (record { name = w.name; among = h; at = w.at })
-  ]
+  wants-either names more p w = elim (either (is_among names w.name) (is_among more w.name)
+      (sym (among-append names more w.name) ∙ w.among)) [
+        | inl h ↦ inl (record { name = w.name; among = h; at = w.at })
+        | inr h ↦ inr (record { name = w.name; among = h; at = w.at })
+      ]
 
   pub wants-one : (x : List ℕ) (p : ℕ) → found x ≡ Some p → Wants found (x ∷ []) p
   wants-one x p h = record { name = x; among = or-left (same_name x x) false (same-itself x); at = h }
@@ -80,7 +92,8 @@ module _ (found : List ℕ → Option ℕ) where
       ]
 
       by : (p : ℕ) (b : Bool) → eq_by_cmp nat_cmp k p ≡ b → new p ≡ true → (old p ≡ true) ⊎ Wants found (names ++ x ∷ []) p
-      by p true e h = inr (wants-right names (x ∷ []) p (subst (λ q. Wants found (x ∷ []) q) (tells_apart exact_unsigned k p e) (wants-one x k at)))
+      by p true e h = inr (wants-right names (x ∷ []) p (subst (λ q. Wants found (x ∷ []) q) (tells_apart exact_unsigned k p e)
+          (wants-one x k at)))
       by p false e h = elim (m.only p (sym (updates p ∙ ap (λ b. cond b true (cur p)) e) ∙ h)) [
         | inl o ↦ inl o
         | inr w ↦ inr (wants-left names (x ∷ []) p w)

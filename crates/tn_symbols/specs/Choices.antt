@@ -1,5 +1,6 @@
 -- Which modules a program is made of: the named ones, and then those of libraries that others need.
-use Rattle.std.specs.Prelude.{◌≡◌, ℕ, ◌<◌, Bool, true, false, not, ◌&&◌, nat_eq, List, [], ◌++◌, map, length, take, slice_index, slice_index_or}
+use Rattle.std.specs.Prelude.{◌≡◌, ℕ, ◌<◌, Bool, true, false, not, ◌&&◌, nat_eq, List, [], ◌++◌, map, length, take, slice_index}
+use Rattle.std.specs.Prelude.{slice_index_or}
 use Rattle.std.specs.List.{list_any, flat_map}
 use Rattle.tn_module.specs.Modules.{Parts}
 use Rattle.tn_module.specs.Names.{is_among, import_names}

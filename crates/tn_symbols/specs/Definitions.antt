@@ -38,4 +38,5 @@ pub record IsDefined (modules : List Parts) (import : Import) : Type 0 where
 
 -- each import of the modules has one
 abbrev pub AreDefined : List Parts → Type 0
-AreDefined modules = (m i : ℕ) (import : Import) → m < length modules → slice_get (module_at modules m).imports i ≡ Some import → IsDefined modules import
+AreDefined modules = (m i : ℕ) (import : Import) → m < length modules → slice_get (module_at modules m).imports i ≡ Some import
+    → IsDefined modules import

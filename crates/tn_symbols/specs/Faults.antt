@@ -28,7 +28,8 @@ import_fault m i kind (Some definition) = if same_kind definition.kind kind then
 
 -- what is wrong at a place
 abbrev pub fault_at : List Parts → Site → Option ChooseFault
-fault_at modules (ExportAt m i) = option_and_then (λ name. export_fault m i (exported (take m modules)) name) (slice_get (module_at modules m).exports i)
+fault_at modules (ExportAt m i) = option_and_then (λ name. export_fault m i (exported (take m modules)) name)
+    (slice_get (module_at modules m).exports i)
 fault_at modules (ImportAt m i) =
     option_and_then (λ import. import_fault m i import.kind (definition_of modules import.name)) (slice_get (module_at modules m).imports i)
 
@@ -48,7 +49,8 @@ index (ImportAt m i) = i
 abbrev pub IsBefore : Site → Site → Type 0
 IsBefore p q =
     (list_number p < list_number q)
-    ⊎ ((list_number p ≡ list_number q) × ((module_number p < module_number q) ⊎ ((module_number p ≡ module_number q) × (index p < index q))))
+    ⊎ ((list_number p ≡ list_number q) × ((module_number p < module_number q)
+    ⊎ ((module_number p ≡ module_number q) × (index p < index q))))
 
 abbrev pub IsWrong : List Parts → Site → ChooseFault → Type 0
 IsWrong modules p fault = fault_at modules p ≡ Some fault

@@ -51,7 +51,8 @@ fn closed(
     requires stock { All (IsHere (offered offer.now)) stock.now }
     requires few { length stock.now < 2 ^ 30 }
     requires places { (name : List ℕ) → get same_name places.now name ≡ first_exporter (modules_of (offered offer.now) stock.now) name }
-    ensures { IfOk result (λ picks. IsChosen (modules_of (offered offer.now) first.now) (modules_of (offered offer.now) stock.now) picks.items) }
+    ensures { IfOk result (λ picks. IsChosen (modules_of (offered offer.now) first.now) (modules_of (offered offer.now) stock.now)
+        picks.items) }
 {
     let mut exported = exported_names(alloc, offer, first)?;
     let mut wanted = wanted_places(alloc, offer, first, places, &exported)?;

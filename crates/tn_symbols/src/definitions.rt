@@ -100,7 +100,8 @@ fn kind_in(code: &IndexSet<Name>, name: &Name) -> Kind
 
 /// What a label stands for, where these are the items of its module.
 pub(crate) fn kind_of(items: &[Item], name: &Name) -> Kind
-    ensures { result ≡ (if list_any (λ item. option_map_or (same_name name.now) (code_label item) false) items.now then kind.Code else kind.Cell) }
+    ensures { result ≡ (if list_any (λ item. option_map_or (same_name name.now) (code_label item) false) items.now then kind.Code
+        else kind.Cell) }
 {
     if has_label(items, name) {
         Kind::Code

@@ -1,4 +1,5 @@
-ghost use Rattle.std.specs.Prelude.{◌≡◌, ℕ, ◌<◌, ◌^◌, List, All, length, slice_get, is_some, Some, None, option_and_then, IfOk, IfErr, OnOk, if◌then◌else◌};
+ghost use Rattle.std.specs.Prelude.{◌≡◌, ℕ, ◌<◌, ◌^◌, List, All, length, slice_get, is_some, Some, None, option_and_then, IfOk, IfErr};
+ghost use Rattle.std.specs.Prelude.{OnOk, if◌then◌else◌};
 ghost use Rattle.indexmap.specs.IndexMap.{get};
 ghost use Rattle.tn_module.specs.Modules.{IsShort};
 ghost use Rattle.tn_module.specs.Names.{same_name};
@@ -75,7 +76,8 @@ fn repeated(
     exports: &[Name],
 ) -> Option<ChooseFault>
     requires { length exports.now < 2 ^ 30 }
-    ensures { IsFound (λ i. option_and_then (λ name. if is_some (get same_name definitions.now name) then Some (choose.Duplicate place i) else None)
+    ensures { IsFound (λ i. option_and_then (λ name. if is_some (get same_name definitions.now name) then Some (choose.Duplicate place i)
+        else None)
         (slice_get exports.now i)) result }
 {
     for (i, name) in exports.iter().enumerate() {

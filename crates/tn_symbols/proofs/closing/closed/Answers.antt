@@ -27,7 +27,8 @@ bounds-stock-place c =
     omega (
       arith,
       wanted-here (modules_of (offered c.args.offer.now) c.args.first.now) (modules_of (offered c.args.offer.now) c.args.stock.now)
-          (get same_name c.args.places.now) c.requires.places c.closing.picks.items c.closing.exported.keys (contains nat_cmp c.closing.wanted)
+          (get same_name c.args.places.now) c.requires.places c.closing.picks.items c.closing.exported.keys
+          (contains nat_cmp c.closing.wanted)
           c.closing.invariant c.in-Some.place c.in-Some.ensures.member,
       length-map c.args.stock.now (module_of (offered c.args.offer.now)),
     )
@@ -38,7 +39,8 @@ module_of-requires c =
       arith,
       wanted-here
           (modules_of (offered c.args.offer.now) c.args.first.now) (modules_of (offered c.args.offer.now) c.args.stock.now)
-          (get same_name c.args.places.now) c.requires.places c.closing.picks.items c.closing.exported.keys (contains nat_cmp c.closing.wanted)
+          (get same_name c.args.places.now) c.requires.places c.closing.picks.items c.closing.exported.keys
+          (contains nat_cmp c.closing.wanted)
           c.closing.invariant c.in-Some.place c.in-Some.ensures.member,
       length-map c.args.stock.now (module_of (offered c.args.offer.now)),
     ) in
@@ -51,7 +53,8 @@ closing-preserved c =
       arith,
       wanted-here
           (modules_of o c.args.first.now) (modules_of o c.args.stock.now)
-          (get same_name c.args.places.now) c.requires.places c.closing.picks.items c.closing.exported.keys (contains nat_cmp c.closing.wanted)
+          (get same_name c.args.places.now) c.requires.places c.closing.picks.items c.closing.exported.keys
+          (contains nat_cmp c.closing.wanted)
           c.closing.invariant c.in-Some.place c.in-Some.ensures.member,
       length-map c.args.stock.now (module_of o),
     ) in
@@ -59,7 +62,8 @@ closing-preserved c =
     ∙ sym (get_or-map (module_of o) c.args.stock.now c.in-Some.place (source None 0) empty here) in
     let exports = c.deref.ensures.value ∙ ap (λ (m : Parts). m.exports) is in
     let imports = ap import_names c.deref-in-Some.ensures.value ∙ ap (λ (m : Parts). import_names m.imports) is in
-    subst (λ (picks : List ℕ). IsPicking (modules_of o c.args.first.now) (modules_of o c.args.stock.now) picks (get same_name c.args.places.now)
+    subst (λ (picks : List ℕ). IsPicking (modules_of o c.args.first.now) (modules_of o c.args.stock.now) picks
+    (get same_name c.args.places.now)
     c.add_names.new.set.keys (contains nat_cmp c.want.new.wanted)) (sym c.in_ok-push.ensures.items)
     (picked (modules_of o c.args.first.now) (modules_of o c.args.stock.now) (get same_name c.args.places.now) c.requires.places
     c.closing.picks.items c.closing.exported.keys (contains nat_cmp c.closing.wanted) c.closing.invariant c.in-Some.place
@@ -77,7 +81,8 @@ closing-smaller c =
       arith,
       wanted-here
           (modules_of o c.args.first.now) (modules_of o c.args.stock.now)
-          (get same_name c.args.places.now) c.requires.places c.closing.picks.items c.closing.exported.keys (contains nat_cmp c.closing.wanted)
+          (get same_name c.args.places.now) c.requires.places c.closing.picks.items c.closing.exported.keys
+          (contains nat_cmp c.closing.wanted)
           c.closing.invariant c.in-Some.place c.in-Some.ensures.member,
       length-map c.args.stock.now (module_of o),
     ) in
@@ -90,7 +95,8 @@ closing-smaller c =
           c.closing.picks.items c.closing.exported.keys (contains nat_cmp c.closing.wanted) c.closing.invariant c.in-Some.place
           c.in-Some.ensures.member c.in-Some.ensures.least (contains nat_cmp c.pop_first.new.self) c.in-Some.ensures.updates.0
           c.add_names.new.set.keys
-          (subst (λ (l : List (List ℕ)). HaveSameNames c.add_names.new.set.keys (c.closing.exported.keys ++ l)) exports c.in_ok-add_names.ensures),
+          (subst (λ (l : List (List ℕ)). HaveSameNames c.add_names.new.set.keys (c.closing.exported.keys ++ l)) exports
+          c.in_ok-add_names.ensures),
       length-map c.args.stock.now (module_of o),
       ap length c.in_ok-push.ensures.items,
       length_push c.closing.picks.items c.in-Some.place,

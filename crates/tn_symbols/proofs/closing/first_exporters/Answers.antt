@@ -21,4 +21,5 @@ loop-place-preserved c = λ name.
     (sym (length-map (take c.loop-place.place c.args.stock.now) (module_of (offered c.args.offer.now))
     ∙ length-take-le c.loop-place.place c.args.stock.now (omega arith)))
     ∙ sym (exporter-more before name m)
-    ∙ ap (λ ms. first_exporter ms name) (sym (map_more (module_of (offered c.args.offer.now)) c.args.stock.now c.loop-place.place (source None 0) c.loop-place-test.true))
+    ∙ ap (λ ms. first_exporter ms name) (sym (map_more (module_of (offered c.args.offer.now)) c.args.stock.now c.loop-place.place
+    (source None 0) c.loop-place-test.true))

@@ -12,7 +12,8 @@ pub loop-name-preserved : goal.loop-name-preserved
 loop-name-preserved c =
     tells-grown (get same_name c.args.definitions.now) (get same_name c.loop-name.definitions) (get same_name c.define_one.new.definitions)
     c.args.raw.now.exports.items c.loop-name.name-index c.name-item.result
-    (λ name. record { «module» = c.args.place; kind = kind_of (module_of c.args.raw.now) name }) (subst (λ l. c.loop-name.name-index < length l) c.deref-name-items.ensures.value c.loop-name-test.true)
+    (λ name. record { «module» = c.args.place; kind = kind_of (module_of c.args.raw.now) name })
+    (subst (λ l. c.loop-name.name-index < length l) c.deref-name-items.ensures.value c.loop-name-test.true)
     (subst (λ l. c.name-item.result ≡ get_or l c.loop-name.name-index c.name-item.result) c.deref-name-items.ensures.value c.name-item.is)
     c.loop-name.invariant (c.in_ok-define_one.ensures c.args.raw.now.items.items
     (subst (λ (l : List Item). HaveSameNames c.in_ok-code.code.keys (code_labels l)) c.deref.ensures.value c.in_ok-code.ensures))

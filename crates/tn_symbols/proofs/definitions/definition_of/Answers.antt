@@ -27,7 +27,8 @@ loop-place-preserved c =
     let exports = c.deref.ensures.value
     ∙ part-at (λ (m : Parts). m.exports) c.args.modules.now c.loop-place.place (module_of c.raw-raw.result.now) c.index-modules-place.result
     c.loop-place-test.true c.index-modules-place.is c.raw-raw.ensures.parts in
-    below_more _ _ c.loop-place.invariant (ap (λ l. is_among l c.args.name.now) (sym exports) ∙ sym c.is_among.ensures ∙ c.if-is_among.false)
+    below_more _ _ c.loop-place.invariant (ap (λ l. is_among l c.args.name.now) (sym exports) ∙ sym c.is_among.ensures
+    ∙ c.if-is_among.false)
 
 pub returns : goal.returns
 returns c =

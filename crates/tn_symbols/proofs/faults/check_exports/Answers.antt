@@ -17,7 +17,8 @@ returns-in-Some-clause-fault c =
     let is = c.deref.ensures.value
     ∙ part-at (λ (m : Parts). m.exports) c.args.modules.now c.loop-m.m (module_of c.raw-raw.result.now) c.index-modules-m.result
     c.loop-m-test.true c.index-modules-m.is c.raw-raw.ensures.parts in
-    fault-if (IsFirstIn (λ m i. fault_at c.args.modules.now (ExportAt m i))) c.in-Some.fault (first-in (λ m i. fault_at c.args.modules.now (ExportAt m i)) c.loop-m.m c.loop-m.invariant.sound
+    fault-if (IsFirstIn (λ m i. fault_at c.args.modules.now (ExportAt m i))) c.in-Some.fault
+    (first-in (λ m i. fault_at c.args.modules.now (ExportAt m i)) c.loop-m.m c.loop-m.invariant.sound
     c.repeated.result c.in-Some.fault c.in-Some.is
     (found-same _ (λ i. fault_at c.args.modules.now (ExportAt c.loop-m.m i))
     (exports-same c.args.modules.now c.loop-m.m c.deref.result.now (get same_name c.loop-m.definitions) is c.loop-m.invariant.definitions)
@@ -45,9 +46,11 @@ loop-m-preserved c =
           ∙ sym (definition-more before m name)
           ∙ ap (λ ms. definition_of ms name) (sym (take_more c.args.modules.now c.loop-m.m _ c.loop-m-test.true));
       sound =
-          none-more (λ m i. fault_at c.args.modules.now (ExportAt m i)) c.loop-m.m c.loop-m.invariant.sound c.repeated.result c.in_default.is
+          none-more (λ m i. fault_at c.args.modules.now (ExportAt m i)) c.loop-m.m c.loop-m.invariant.sound c.repeated.result
+          c.in_default.is
           (found-same _ (λ i. fault_at c.args.modules.now (ExportAt c.loop-m.m i))
-          (exports-same c.args.modules.now c.loop-m.m c.deref.result.now (get same_name c.loop-m.definitions) is c.loop-m.invariant.definitions)
+          (exports-same c.args.modules.now c.loop-m.m c.deref.result.now (get same_name c.loop-m.definitions) is
+          c.loop-m.invariant.definitions)
           c.repeated.result c.repeated.ensures);
     }
 

@@ -12,7 +12,8 @@ returns-in-Some-clause-fault c =
     let is = c.deref.ensures.value
     ∙ part-at (λ (m : Parts). m.imports) c.args.modules.now c.loop-m.m (module_of c.raw-raw.result.now) c.index-modules-m.result
     c.loop-m-test.true c.index-modules-m.is c.raw-raw.ensures.parts in
-    fault-if (IsFirstIn (λ m i. fault_at c.args.modules.now (ImportAt m i))) c.in-Some.fault (first-in (λ m i. fault_at c.args.modules.now (ImportAt m i)) c.loop-m.m c.loop-m.invariant
+    fault-if (IsFirstIn (λ m i. fault_at c.args.modules.now (ImportAt m i))) c.in-Some.fault
+    (first-in (λ m i. fault_at c.args.modules.now (ImportAt m i)) c.loop-m.m c.loop-m.invariant
     c.refused.result c.in-Some.fault c.in-Some.is
     (found-same _ (λ i. fault_at c.args.modules.now (ImportAt c.loop-m.m i))
     (imports-same c.args.modules.now c.loop-m.m c.deref.result.now (get same_name c.args.definitions.now) is c.requires.definitions)

@@ -8,4 +8,5 @@ use Rattle.tn_symbols.proofs.faults.refused.Given as goal
 abbrev pub invariant-loop-i : goal.invariant-loop-i
 invariant-loop-i l =
     (k : ℕ) → k < l.i
-    → option_and_then (λ import. import_fault l.place k import.kind (get same_name l.definitions import.name)) (slice_get l.imports k) ≡ None
+    → option_and_then (λ import. import_fault l.place k import.kind (get same_name l.definitions import.name)) (slice_get l.imports k)
+    ≡ None

@@ -7,7 +7,8 @@ use Rattle.tn_symbols.proofs.names.add_place.Goals.{then-not-contains_key+in_ok-
 
 pub loop-name-preserved : goal.loop-name-preserved
 loop-name-preserved c =
-    tells-grown (get same_name c.args.places.now) (get same_name c.loop-name.places) (get same_name c.if-not-contains_key.places) c.args.names.now
+    tells-grown (get same_name c.args.places.now) (get same_name c.loop-name.places) (get same_name c.if-not-contains_key.places)
+    c.args.names.now
     c.loop-name.name-index c.name-item.result (λ _. c.args.place) c.loop-name-test.true c.name-item.is c.loop-name.invariant
     (elim c.if-not-contains_key.branch [
       | then-not-contains_key+in_ok-insert w ↦

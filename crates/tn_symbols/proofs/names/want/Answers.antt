@@ -24,7 +24,8 @@ loop-import-preserved c =
           c.loop-import.invariant
       | in_default w ↦
           subst (λ (s : BTreeSet ℕ). WantsMore (contains nat_cmp c.args.wanted.now) (contains nat_cmp s)
-          (missing (get same_name c.args.places.now) c.args.exported.now.keys) (import_names (take c.loop-import.import-index c.args.imports.now)
+          (missing (get same_name c.args.places.now) c.args.exported.now.keys)
+          (import_names (take c.loop-import.import-index c.args.imports.now)
           ++ c.import-item.result.name ∷ [])) (sym w.wanted-is)
           (wants-skipped (missing (get same_name c.args.places.now) c.args.exported.now.keys) (contains nat_cmp c.args.wanted.now)
           (contains nat_cmp c.loop-import.wanted) (import_names (take c.loop-import.import-index c.args.imports.now))
