@@ -1,0 +1,9 @@
+pub mod OneChoice
+pub mod NameLists
+pub mod Tables
+pub mod Wanting
+pub mod Picking
+pub mod Exporting
+pub mod Sourcing
+pub mod FirstFaults
+pub mod Labels

@@ -1,0 +1,4 @@
+-- What inner functions and loops hold to: no public clause cites it.
+pub mod Tables
+pub mod Searches
+pub mod Sourcing

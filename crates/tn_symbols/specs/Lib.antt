@@ -1,0 +1,5 @@
+pub mod Choices
+pub mod Sources
+pub mod Definitions
+pub mod Faults
+pub mod Inner
