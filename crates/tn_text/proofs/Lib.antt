@@ -1,6 +1,7 @@
 pub mod Cells
 pub mod Putting
 pub mod Digits
+pub mod Naturals
 pub mod Walking
 pub mod Cutting
 pub mod ReadingLoops

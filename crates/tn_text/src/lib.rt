@@ -19,7 +19,7 @@ pub use faults::{Cause, Detail, Fault, FaultCode, Lack, Part, ReadFault, Region}
 pub use file_names::FileName;
 pub use lines::{is_ascii_line, next_line, tokens_of};
 pub use names::{Name, is_name, is_name_spelling};
-pub use numbers::{begins_number, number};
+pub use numbers::{begins_number, natural, number};
 pub use places::{file_name_at, name_at, number_at};
 pub use puts::{Put, PutRefused, put_decimal, put_spaced, put_spaced_decimal};
 pub use reading::read_tokens;

@@ -57,9 +57,9 @@ fn negative(value: u64) -> Option<u32>
     }
 }
 
-/// The value of one to `most` digits of a radix.
+/// The value of one to `most` digits of a radix. `None` exactly where the bytes are none.
 #[tactic(auto, unfolding(crate::specs::Numbers::natural_of))]
-fn natural(digits: &[u8], radix: u8, most: usize) -> Option<u64>
+pub fn natural(digits: &[u8], radix: u8, most: usize) -> Option<u64>
     requires radix { radix ≤ 16 }
     requires most { most ≤ 10 }
     ensures value { result ≡ natural_of radix most digits.now }

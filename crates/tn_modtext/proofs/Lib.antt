@@ -1,0 +1,14 @@
+pub mod Cutting
+pub mod StrictTokens
+pub mod Results
+pub mod NumeralLaws
+pub mod TokenLaws
+pub mod OperandLaws
+pub mod LineLaws
+pub mod SplitLaws
+pub mod WordLaws
+pub mod DraftLaws
+pub mod ReadLaws
+pub mod PieceLoops
+pub mod ModuleLaws
+pub mod WritingLaws

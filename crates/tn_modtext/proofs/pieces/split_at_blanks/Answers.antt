@@ -1,0 +1,10 @@
+use Rattle.std.proofs.Common.{rules}
+use Rattle.std.proofs.lemmas.Iterator.Consumers.{map_from_collect}
+use Rattle.std.proofs.lemmas.Iterator.Splits.{YieldsList-from_slice_split}
+use Rattle.tn_modtext.specs.Pieces.{is_space}
+use Rattle.tn_modtext.proofs.pieces.split_at_blanks.Goals as goal
+
+pub returns : goal.returns
+returns c =
+    map_from_collect _ c.collect.ensures.ran
+    (YieldsList-from_slice_split _ is_space c.args.line.now (cc) (cc) c.split.ensures.closure (λ x b q k. search rules))

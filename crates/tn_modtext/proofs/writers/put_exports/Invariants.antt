@@ -1,0 +1,8 @@
+use Rattle.std.proofs.Common.{◌≡◌, ◌++◌, map, take}
+use Rattle.std.specs.List.{flat_map}
+use Rattle.tn_modtext.specs.declared.lines.Line.TheVariants as line
+use Rattle.tn_modtext.specs.Lines.{line_spelling}
+use Rattle.tn_modtext.proofs.writers.put_exports.Given as goal
+
+abbrev pub invariant-loop-name : goal.invariant-loop-name
+invariant-loop-name l = l.out.items ≡ l.initial.out.items ++ flat_map line_spelling (map line.Export (take l.name-index l.exports))

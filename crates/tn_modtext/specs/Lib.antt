@@ -1,0 +1,12 @@
+pub mod Forms
+pub mod Lines
+pub mod Numerals
+pub mod Operands
+pub mod Tokens
+pub mod LinesAt
+pub mod Pieces
+pub mod LineFaults
+pub mod ModuleTexts
+pub mod Readers
+pub mod Libraries
+pub mod Inner
