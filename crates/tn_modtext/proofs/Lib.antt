@@ -12,3 +12,5 @@ pub mod ReadLaws
 pub mod PieceLoops
 pub mod ModuleLaws
 pub mod WritingLaws
+pub mod FirstFaults
+pub mod ModuleReading

@@ -9,4 +9,5 @@ pub mod LineFaults
 pub mod ModuleTexts
 pub mod Readers
 pub mod Libraries
+pub mod ModuleReading
 pub mod Inner
