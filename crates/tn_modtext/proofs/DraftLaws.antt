@@ -147,7 +147,7 @@ grows s d l h f = absurd cc
 
 -- ---- the end
 
-at_end : (s : Section) → is_end s ≡ true → s ≡ section.End
+pub at_end : (s : Section) → is_end s ≡ true → s ≡ section.End
 at_end section.Head e = absurd cc
 at_end section.Name e = absurd cc
 at_end section.Imports e = absurd cc
@@ -155,6 +155,10 @@ at_end section.Exports e = absurd cc
 at_end section.Items e = absurd cc
 at_end section.Cells e = absurd cc
 at_end section.End e = refl
+
+-- a draft with a name that is at its end is whole
+pub whole-at_end : (d : Drawn) (name : List ℕ) → d.name ≡ Some name → is_end d.section ≡ true → whole d ≡ Ok (parts_with d name)
+whole-at_end d name named ended = rw (named, ended) refl
 
 pub record IsWhole (d : Drawn) (m : Parts) : Type 0 where
   pub ended : d.section ≡ section.End

@@ -17,7 +17,7 @@ use Rattle.tn_text.specs.declared.faults.FaultCode.TheVariants.{BadNumber}
 use Rattle.tn_text.specs.Faults.{bare}
 use Rattle.tn_text.specs.Numbers.{natural_of}
 use Rattle.tn_text.proofs.Digits.{all_digits, few_digits}
-use Rattle.tn_text.proofs.Naturals.{natural-only}
+use Rattle.tn_text.proofs.Naturals.{natural-only as decimal-only}
 use Rattle.tn_modtext.specs.Numerals.{has_leading_zero, plain_natural, up_to, natural_at, negative_at, positive_at, signed_at}
 
 -- digits, as std's lemmas speak of them
@@ -86,7 +86,7 @@ no_zero (suc n) small = at (decimal (suc n)) (first_decimal (suc n) (omega arith
 
 plain-only : (n : ℕ) → n < 10 ^ 10 → plain_natural (decimal n) ≡ Some n
 unfolding plain_natural
-plain-only n small = rw (no_zero n (omega arith), natural-only n small) refl
+plain-only n small = rw (no_zero n (omega arith), decimal-only n small) refl
 
 -- ---- numbers up to a limit
 

@@ -4,8 +4,10 @@ use Rattle.tn_text.proofs.Results.{of-error}
 use Rattle.tn_module.specs.Modules.{Parts, module_of}
 use Rattle.tn_modtext.specs.ModuleTexts.{IsModuleText, IsModuleTextFault}
 use Rattle.tn_modtext.specs.Readers.{Reads}
+use Rattle.tn_modtext.specs.Inner.Drafts.{parts_read}
 use Rattle.tn_modtext.proofs.ReadLaws.{parts_reading}
-use Rattle.tn_modtext.proofs.ModuleLaws.{HasRoom, room-spelled, module-read, module-stopped, stopped-given}
+use Rattle.tn_modtext.proofs.CheckLaws.{stopped-given}
+use Rattle.tn_modtext.proofs.ModuleLaws.{HasRoom, room-spelled, module-read, module-stopped}
 use Rattle.tn_modtext.proofs.modules.read_module.Goals as goal
 
 pub returns-in_err-raw : goal.returns-in_err-raw
@@ -13,7 +15,7 @@ returns-in_err-raw c =
     of-error (λ (r : Result Parts ReadFault). Reads (IsModuleText c.args.text.now) (IsModuleTextFault c.args.text.now) r)
     c.from_residual.result c.in_err-raw.field-0.0 c.from_residual.ensures.1
     (module-stopped c.args.text.now c.in_err-raw.field-0.0
-    (stopped-given module_of c.args.text.now c.in_err-raw.field-0.0 c.in_err-raw.ensures))
+    (stopped-given module_of (parts_read c.args.text.now) c.in_err-raw.field-0.0 c.in_err-raw.ensures))
 
 pub checked-requires-clause-short : goal.checked-requires-clause-short
 checked-requires-clause-short c =
