@@ -1,6 +1,6 @@
 -- A reader that reads lines, and then checks what they spell, has the faults of the lines first.
 use Rattle.std.specs.Prelude.{⊤}
-use Rattle.std.proofs.Common.{◌≡◌, ℕ, ◌⊎◌, inl, inr, Result, Ok, Err, refl, sym, ap, ◌∙◌, subst}
+use Rattle.std.proofs.Common.{◌≡◌, ◌⊎◌, inl, inr, Result, Ok, Err, sym, ap, ◌∙◌, subst}
 use Rattle.tn_text.specs.declared.faults.Fault.{Fault}
 use Rattle.tn_text.specs.declared.faults.ReadFault.{ReadFault}
 use Rattle.tn_text.specs.declared.faults.ReadFault.TheVariants as read

@@ -1,5 +1,6 @@
 -- A text is that of the library whose valid modules its lines spell, or has one first fault.
-use Rattle.std.proofs.Common.{◌≡◌, ℕ, ◌+◌, ◌^◌, ◌<◌, ◌≤◌, ◌⊎◌, inl, inr, List, [], ◌∷◌, ◌++◌, length, map, All, Result, Ok, Err, refl, sym, ap, ◌∙◌, subst}
+use Rattle.std.proofs.Common.{◌≡◌, ℕ, ◌+◌, ◌^◌, ◌<◌, ◌≤◌, ◌⊎◌, inl, inr, List, [], ◌∷◌, ◌++◌, length, map, All, Result, Ok, Err, refl}
+use Rattle.std.proofs.Common.{sym, ap, ◌∙◌, subst}
 use Rattle.std.proofs.Common.{arith, length-append}
 use Rattle.std.specs.Prelude.{codes}
 use Rattle.std.specs.List.{flat_map, AllByRecursion}
@@ -21,7 +22,7 @@ use Rattle.tn_module.proofs.OneFirst.{one_first_fault}
 use Rattle.tn_modtext.specs.Lines.{lines_of, spelling, HasSpelling}
 use Rattle.tn_modtext.specs.ModuleTexts.{fault_in, IsChecked}
 use Rattle.tn_modtext.specs.LibraryFaults.{IsLibraryLineFault}
-use Rattle.tn_modtext.specs.Libraries.{library_spelling, IsLibraryText, IsFirstModuleFault, IsFaultOfLibrary, IsLibraryTextFault, AreChecked}
+use Rattle.tn_modtext.specs.Libraries.{library_spelling, IsLibraryText, IsFirstModuleFault, IsLibraryTextFault, AreChecked}
 use Rattle.tn_modtext.specs.Readers.{Reads}
 use Rattle.tn_modtext.specs.Inner.LibraryDrafts.{library_read}
 use Rattle.tn_modtext.proofs.LibraryReadLaws.{library_reading}
@@ -170,7 +171,6 @@ checked-none = record { same = refl; valid = All-nil IsValid; ranges = All-nil I
 -- the module behind them has room
 pub record HasNextRoom (m : Parts) (before : ℕ) : Type 0 where
   pub short : IsShort m
-  pub room : before + length m.imports + length m.exports + length m.items + length m.cells + 5 < 2 ^ 31
   pub lines : before + length (lines_of m) < 2 ^ 31
 
 pub next-room : (ms : List Parts) (m : Parts) (behind all checked : List Parts) (before : ℕ) → IsCheckedTo ms checked before
@@ -188,7 +188,6 @@ next-room ms m behind all checked before is split room =
         items = omega (arith, room, count, lines, whole, parts, last);
         cells = omega (arith, room, count, lines, whole, parts, last);
       };
-      room = omega (arith, room, count, lines, whole, parts, last);
       lines = omega (arith, room, count, lines, whole, parts, last);
     }
 

@@ -1,6 +1,6 @@
 -- Reading the lines of a text gives the modules whose library they spell, or the fault of the first
 -- line that may not stand at its place.
-use Rattle.std.proofs.Common.{◌≡◌, ℕ, ◌+◌, Bool, true, false, ◌&&◌, cond, List, [], ◌∷◌, ◌++◌, length, map, Option, Some, None, All}
+use Rattle.std.proofs.Common.{◌≡◌, ℕ, Bool, true, false, cond, List, [], ◌∷◌, ◌++◌, map, All}
 use Rattle.std.proofs.Common.{Result, Ok, Err, refl, sym, ap, ◌∙◌, subst, append_assoc, append-nil}
 use Rattle.std.specs.Prelude.{codes}
 use Rattle.std.specs.List.{list_all, flat_map, join_with_byte, AllByRecursion}
@@ -13,7 +13,7 @@ use Rattle.tn_text.specs.declared.faults.Cause.{Cause}
 use Rattle.tn_text.specs.declared.faults.Fault.{Fault}
 use Rattle.tn_text.specs.declared.faults.FaultCode.TheVariants.{BadLine}
 use Rattle.tn_text.specs.Faults.{bare}
-use Rattle.tn_text.specs.Reading.{result_then, placed, read_lines, Walks, IsReading}
+use Rattle.tn_text.specs.Reading.{result_then, read_lines, Walks, IsReading}
 use Rattle.tn_text.proofs.Walking.{walk_of, of_walk}
 use Rattle.tn_module.specs.Modules.{Parts}
 use Rattle.tn_modtext.specs.declared.forms.Section.{Section}
@@ -29,13 +29,15 @@ use Rattle.tn_modtext.specs.Lines.{line_form, line_args, line_words, line_text, 
 use Rattle.tn_modtext.specs.Pieces.{pieces, is_strict_byte, strict_tokens}
 use Rattle.tn_modtext.specs.LinesAt.{line_at}
 use Rattle.tn_modtext.specs.LineFaults.{is_end}
-use Rattle.tn_modtext.specs.LibraryLines.{is_head, is_last, module_line_at, library_line_at, within, library_section_after}
+use Rattle.tn_modtext.specs.LibraryLines.{is_head, is_last, module_line_at, library_line_at, library_section_after}
 use Rattle.tn_modtext.specs.LibraryFaults.{library_section_step, library_ends_at, IsLibraryLineFault}
 use Rattle.tn_modtext.specs.Libraries.{library_spelling}
 use Rattle.tn_modtext.specs.Inner.Drafts.{Drawn, blank, after, parts_with, whole}
-use Rattle.tn_modtext.specs.Inner.LibraryDrafts.{DrawnLibrary, blank_library, read_whole, with_draft, after_library_line, whole_library, library_said}
+use Rattle.tn_modtext.specs.Inner.LibraryDrafts.{DrawnLibrary, blank_library, read_whole, with_draft, after_library_line, whole_library}
+use Rattle.tn_modtext.specs.Inner.LibraryDrafts.{library_said}
 use Rattle.tn_modtext.specs.Inner.LibraryDrafts.{library_step, library_read}
-use Rattle.tn_modtext.proofs.SplitLaws.{both, list_all-append, is_token_byte, tokens-only, tokens-found, put_together, pieces-together, together-ended}
+use Rattle.tn_modtext.proofs.SplitLaws.{both, list_all-append, is_token_byte, tokens-only, tokens-found, put_together, pieces-together}
+use Rattle.tn_modtext.proofs.SplitLaws.{together-ended}
 use Rattle.tn_modtext.proofs.SplitLaws.{pieces-ended}
 use Rattle.tn_modtext.proofs.WordLaws.{words-tokens}
 use Rattle.tn_modtext.proofs.LineLaws.{line-found, line-only}
@@ -117,7 +119,8 @@ head-words [] e = absurd cc
 head-words (t ∷ []) e = absurd cc
 head-words (t ∷ u ∷ []) e =
     let tests = both (bytes_eq t (codes "tlib")) (bytes_eq u (codes "1")) e in
-    ap (λ w. w ∷ u ∷ []) ((bytes_eq-Decides t (codes "tlib")).0 tests.0) ∙ ap (λ w. codes "tlib" ∷ w ∷ []) ((bytes_eq-Decides u (codes "1")).0 tests.1)
+    ap (λ w. w ∷ u ∷ []) ((bytes_eq-Decides t (codes "tlib")).0 tests.0)
+    ∙ ap (λ w. codes "tlib" ∷ w ∷ []) ((bytes_eq-Decides u (codes "1")).0 tests.1)
 head-words (t ∷ u ∷ v ∷ ts) e = absurd cc
 
 last-words : (words : List (List ℕ)) → is_last words ≡ true → words ≡ library_words line.End
@@ -148,13 +151,17 @@ line-at-found library.Head words l e = at (is_head words) refl e
   where
     at : (b : Bool) → is_head words ≡ b → cond {A = Result LibraryLine Cause} b (Ok line.Head) (Err (bare BadLine)) ≡ Ok l
         → IsLine library.Head words l
-    at true is q = let same : line.Head ≡ l = cc in subst (IsLine library.Head words) same (record { stands = tt; tokens = head-words words is })
+    at true is q =
+        let same : line.Head ≡ l = cc in
+        subst (IsLine library.Head words) same (record { stands = tt; tokens = head-words words is })
     at false is q = absurd cc
 line-at-found library.Between words l e = at (is_last words) refl e
   where
     at : (b : Bool) → is_last words ≡ b → cond {A = Result LibraryLine Cause} b (Ok line.End) (module_line_at section.Head words) ≡ Ok l
         → IsLine library.Between words l
-    at true is q = let same : line.End ≡ l = cc in subst (IsLine library.Between words) same (record { stands = tt; tokens = last-words words is })
+    at true is q =
+        let same : line.End ≡ l = cc in
+        subst (IsLine library.Between words) same (record { stands = tt; tokens = last-words words is })
     at false is q =
         let found = module-line-found section.Head words l q in
         subst (IsLine library.Between words) (sym found.is) (record { stands = (found.stands, found.spelled); tokens = found.tokens })
@@ -174,7 +181,8 @@ line-at-only library.Between (line.Module l) h = rw (first_is_not_last l h.0, li
 line-at-only (library.Inside s) (line.Module l) h = rw (line-only s l h.0 h.1) refl
 line-at-only s l h = absurd h
 
-words_strict : (s : LibrarySection) (l : LibraryLine) → Stands s l → strict_tokens (ended_piece (join_with_byte 32 (library_words l))) ≡ Ok (library_words l)
+words_strict : (s : LibrarySection) (l : LibraryLine) → Stands s l
+    → strict_tokens (ended_piece (join_with_byte 32 (library_words l))) ≡ Ok (library_words l)
 unfolding is_token_byte
 words_strict s line.Head h = tokens-only (codes "tlib") (codes "1" ∷ []) refl
 words_strict s line.End h = tokens-only (codes "endlib") [] refl
@@ -203,7 +211,8 @@ step-found d e piece q =
       step = sym same;
     }
 
-step-only : (d : DrawnLibrary) (l : LibraryLine) → Stands d.section l → library_step d (ended_piece (library_text l)) ≡ Ok (after_library_line d l)
+step-only : (d : DrawnLibrary) (l : LibraryLine) → Stands d.section l
+    → library_step d (ended_piece (library_text l)) ≡ Ok (after_library_line d l)
 step-only d l h =
     ap (λ t. library_step d (ended_piece t)) (sym (library_joined l))
     ∙ (ap (λ r. result_then r (library_said d)) (words_strict d.section l h)
@@ -256,7 +265,8 @@ module-grows s d l modules fresh spelled h spelled_l = at (is_end (section_after
         let same : lines_of m ≡ written s d.draft ++ l ∷ [] =
         sym found.lines ∙ (ap (λ u. written u (after d.draft l)) (sym end) ∙ grow.lines) in
         record {
-          texts = ap (λ r. front (d.modules ++ read_whole r)) is ∙ (front-more d.modules m ∙ ap (λ ls. front d.modules ++ map line_text ls) same);
+          texts = ap (λ r. front (d.modules ++ read_whole r)) is
+              ∙ (front-more d.modules m ∙ ap (λ ls. front d.modules ++ map line_text ls) same);
           kept = record {
             spelled = subst (λ r. All HasSpelling (d.modules ++ read_whole r)) (sym is)
                 (All-push HasSpelling d.modules m modules (subst (All IsSpelled) (sym same) lines));
@@ -268,7 +278,8 @@ library-grows : (d : DrawnLibrary) (l : LibraryLine) → Kept d → Stands d.sec
     → IsGrown (texts_so_far d.section d ++ library_text l ∷ []) (after_library_line d l)
 library-grows d l k h = at d.section l k.draws h
   where
-    at : (s : LibrarySection) (l : LibraryLine) → Draws s d → Stands s l → IsGrown (texts_so_far s d ++ library_text l ∷ []) (after_library_line d l)
+    at : (s : LibrarySection) (l : LibraryLine) → Draws s d → Stands s l
+        → IsGrown (texts_so_far s d ++ library_text l ∷ []) (after_library_line d l)
     at library.Head line.Head draws h = record { texts = ap front draws.0; kept = record { spelled = k.spelled; draws = draws.1 } }
     at library.Between line.End draws h = record { texts = refl; kept = record { spelled = k.spelled; draws = tt } }
     at library.Between (line.Module l) draws h =
@@ -362,7 +373,8 @@ module _ (m : Parts) (ms : List Parts) where
       let clash : true ≡ false = ap (λ e. is_end e.section) (sym leads) ∙ inner in
       absurd cc
   lines-walk (l ∷ ls) s d inner may (spelled, all) (h, leads) =
-      at (is_end (section_after (line_form l))) refl (step-only (inside ms s d) (line.Module l) (may l h spelled)) (λ t e i f. lines-walk ls t e i f all)
+      at (is_end (section_after (line_form l))) refl (step-only (inside ms s d) (line.Module l) (may l h spelled))
+      (λ t e i f. lines-walk ls t e i f all)
     where
       ends : (ks : List Line) → section_after (line_form l) ≡ section.End → Leads (after d l) ks (whole_draft m)
           → library_step (inside ms s d) (ended_piece (line_text l)) ≡ Ok (with_draft (inside ms s d) (after d l) true)
@@ -416,7 +428,8 @@ unfolding Walks
 library-walk ms h =
     let last : Walks library_step (between ms) (ended_piece (library_text line.End) ∷ []) (ended_library ms) =
     (ended_library ms, step-only (between ms) line.End tt, refl) in
-    let rest = walks-joined (map ended_piece (flat_map module_texts ms)) (ended_piece (library_text line.End) ∷ []) (between []) (between ms)
+    let rest = walks-joined (map ended_piece (flat_map module_texts ms)) (ended_piece (library_text line.End) ∷ [])
+    (between []) (between ms)
     (ended_library ms) (modules-walk ms [] h) last in (
       between [],
       step-only blank_library line.Head tt,

@@ -1,6 +1,7 @@
 -- A text is that of the valid module that its lines spell, or has one first fault.
-use Rattle.std.proofs.Common.{◌≡◌, ℕ, suc, ◌+◌, ◌^◌, ◌<◌, ◌≤◌, ◌⊎◌, inl, inr, Bool, true, false, not, List, [], ◌∷◌, ◌++◌, length, map, get_or, Option, Some, None, All}
-use Rattle.std.proofs.Common.{Result, Ok, Err, IfOk, refl, sym, ap, ◌∙◌, subst, arith, length-append}
+use Rattle.std.proofs.Common.{◌≡◌, ℕ, ◌+◌, ◌^◌, ◌<◌, ◌≤◌, ◌⊎◌, inl, inr, true, List, [], ◌∷◌, ◌++◌, length, map, get_or, Option, Some}
+use Rattle.std.proofs.Common.{None, All}
+use Rattle.std.proofs.Common.{Result, Ok, Err, refl, sym, ap, ◌∙◌, arith, length-append}
 use Rattle.std.specs.List.{flat_map, slice_get}
 use Rattle.std.specs.Prelude.{option_and_then}
 use Rattle.std.proofs.lemmas.List.{length-map}
@@ -13,7 +14,6 @@ use Rattle.tn_text.specs.declared.faults.Cause.{Cause}
 use Rattle.tn_text.specs.declared.faults.ReadFault.{ReadFault}
 use Rattle.tn_text.specs.declared.faults.ReadFault.TheVariants as read
 use Rattle.tn_text.specs.Reading.{Gives}
-use Rattle.tn_text.proofs.Results.{ok-ok, ok-err}
 use Rattle.tn_module.specs.declared.faults.Place.{Place}
 use Rattle.tn_module.specs.declared.faults.Place.TheVariants as place
 use Rattle.tn_module.specs.declared.faults.ModuleFault.{ModuleFault}
@@ -32,7 +32,7 @@ use Rattle.tn_modtext.specs.declared.lines.Line.{Line}
 use Rattle.tn_modtext.specs.declared.lines.Line.TheVariants as line
 use Rattle.tn_modtext.specs.Lines.{line_text, line_spelling, lines_of, spelling, HasMnemonic, IsSpelledItem, IsSpelled, HasSpelling}
 use Rattle.tn_modtext.specs.LineFaults.{IsLineFault}
-use Rattle.tn_modtext.specs.ModuleTexts.{line_in, fault_in, IsModuleText, IsFaultOfModule, IsModuleTextFault, IsChecked}
+use Rattle.tn_modtext.specs.ModuleTexts.{line_in, fault_in, IsModuleText, IsModuleTextFault, IsChecked}
 use Rattle.tn_modtext.specs.Readers.{Reads}
 use Rattle.tn_modtext.specs.Inner.Drafts.{parts_read}
 use Rattle.tn_modtext.proofs.ReadLaws.{parts_reading}
@@ -81,7 +81,8 @@ spelled-valid m v r =
     (All-cons IsSpelled (line.Name m.name) [] r.name (All-nil IsSpelled)) in
     let imports = All-append IsSpelled (line.Head ∷ line.Name m.name ∷ []) (map line.Import m.imports) head
     (All-map IsSpelled line.Import m.imports r.imports) in
-    let exports = All-append IsSpelled ((line.Head ∷ line.Name m.name ∷ []) ++ map line.Import m.imports) (map line.Export m.exports) imports
+    let exports = All-append IsSpelled ((line.Head ∷ line.Name m.name ∷ []) ++ map line.Import m.imports)
+    (map line.Export m.exports) imports
     (All-map IsSpelled line.Export m.exports r.exports) in
     let front : List Line = ((line.Head ∷ line.Name m.name ∷ []) ++ map line.Import m.imports) ++ map line.Export m.exports in
     let code = All-append IsSpelled front (line.Code ∷ []) exports (All-cons IsSpelled line.Code [] tt (All-nil IsSpelled)) in
@@ -89,7 +90,8 @@ spelled-valid m v r =
     let items = All-append IsSpelled (front ++ line.Code ∷ []) (map line.Item m.items) code (All-map IsSpelled line.Item m.items each) in
     let middle : List Line = (front ++ line.Code ∷ []) ++ map line.Item m.items in
     let data_at = All-append IsSpelled middle (line.Data ∷ []) items (All-cons IsSpelled line.Data [] tt (All-nil IsSpelled)) in
-    let cells = All-append IsSpelled (middle ++ line.Data ∷ []) (map line.Cell m.cells) data_at (All-map IsSpelled line.Cell m.cells r.cells) in
+    let cells = All-append IsSpelled (middle ++ line.Data ∷ []) (map line.Cell m.cells) data_at
+    (All-map IsSpelled line.Cell m.cells r.cells) in
     All-append IsSpelled ((middle ++ line.Data ∷ []) ++ map line.Cell m.cells) (line.End ∷ []) cells
     (All-cons IsSpelled line.End [] tt (All-nil IsSpelled))
 
@@ -158,11 +160,13 @@ module _ (text : List ℕ) where
   abbrev IsSpelledText : Parts → Type 0
   IsSpelledText m = HasSpelling m × (text ≡ spelling m)
 
-  fault_of : (fault : Fault) → IsModuleTextFault text fault → IsLineFault text fault ⊎ ((m : Parts) × IsSpelledText m × IsWrongModule m fault)
+  fault_of : (fault : Fault) → IsModuleTextFault text fault
+      → IsLineFault text fault ⊎ ((m : Parts) × IsSpelledText m × IsWrongModule m fault)
   fault_of fault (inl f) = inl f
   fault_of fault (inr f) = inr (f.parts, (f.has_spelling, f.spelled), (f.found, f.first, f.placed))
 
-  of_fault : (fault : Fault) → IsLineFault text fault ⊎ ((m : Parts) × IsSpelledText m × IsWrongModule m fault) → IsModuleTextFault text fault
+  of_fault : (fault : Fault) → IsLineFault text fault ⊎ ((m : Parts) × IsSpelledText m × IsWrongModule m fault)
+      → IsModuleTextFault text fault
   of_fault fault (inl f) = inl f
   of_fault fault (inr (m, spelled, wrong)) =
       inr (record {

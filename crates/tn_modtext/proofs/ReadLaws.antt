@@ -1,29 +1,28 @@
 -- Reading the lines of a text gives the module that they spell, or the fault of the first line that
 -- may not stand at its place.
-use Rattle.std.proofs.Common.{◌≡◌, ℕ, suc, ◌+◌, ◌⊎◌, inl, inr, Bool, true, false, cond, ◌&&◌, List, [], ◌∷◌, ◌++◌, length, map, Option, Some, None}
+use Rattle.std.proofs.Common.{◌≡◌, ℕ, ◌+◌, Bool, true, false, cond, List, [], ◌∷◌, ◌++◌, length, map}
 use Rattle.std.proofs.Common.{All, Result, Ok, Err, refl, sym, ap, ◌∙◌, subst, append_assoc, append-nil}
 use Rattle.std.specs.List.{list_all, flat_map, join_with_byte, AllByRecursion}
 use Rattle.std.proofs.lemmas.List.Elements.{All-nil, All-cons, recursion_from_All}
 use Rattle.tn_text.specs.declared.faults.Cause.{Cause}
 use Rattle.tn_text.specs.declared.faults.Fault.{Fault}
-use Rattle.tn_text.specs.Reading.{result_then, placed, read_lines, Walks, IsFirstBadLine, IsLacking, IsReading}
-use Rattle.tn_text.proofs.Results.{ok-err}
-use Rattle.tn_text.proofs.Walking.{walk_of, of_walk, first_fault, of_first_bad, of_lacking}
+use Rattle.tn_text.specs.Reading.{placed, read_lines, Walks, IsReading}
+use Rattle.tn_text.proofs.Walking.{walk_of, of_walk}
 use Rattle.tn_module.specs.Modules.{Parts}
 use Rattle.tn_modtext.specs.declared.forms.Section.{Section}
-use Rattle.tn_modtext.specs.declared.forms.Section.TheVariants as section
 use Rattle.tn_modtext.specs.declared.lines.Line.{Line}
 use Rattle.tn_modtext.specs.Forms.{form_word, stands, section_after}
-use Rattle.tn_modtext.specs.Lines.{line_form, line_args, line_words, line_text, line_spelling, ended, lines_of, spelling, IsSpelled, HasSpelling}
+use Rattle.tn_modtext.specs.Lines.{line_form, line_args, line_words, line_text, line_spelling, ended, lines_of, spelling, IsSpelled}
+use Rattle.tn_modtext.specs.Lines.{HasSpelling}
 use Rattle.tn_modtext.specs.Pieces.{pieces, is_strict_byte, strict_tokens}
 use Rattle.tn_modtext.specs.LinesAt.{line_at}
-use Rattle.tn_modtext.specs.LineFaults.{section_said, section_step, is_end, lacks_end, ends_at, IsLineFault}
+use Rattle.tn_modtext.specs.LineFaults.{section_step, is_end, lacks_end, ends_at, IsLineFault}
 use Rattle.tn_modtext.specs.Inner.Drafts.{Drawn, blank, after, whole, draft_said, draft_step, parts_read}
-use Rattle.tn_modtext.proofs.SplitLaws.{both, is_token, HasTokens, tokens-only, tokens-found, put_together, pieces-together, together-ended, pieces-ended}
+use Rattle.tn_modtext.proofs.SplitLaws.{tokens-only, tokens-found, put_together, pieces-together, pieces-ended}
 use Rattle.tn_modtext.proofs.SplitLaws.{strict_words}
 use Rattle.tn_modtext.proofs.WordLaws.{words-tokens}
 use Rattle.tn_modtext.proofs.LineLaws.{IsLineAt, line-found, line-only}
-use Rattle.tn_modtext.proofs.DraftLaws.{written, Fresh, fresh-blank, Grows, grows, IsWhole, whole-found, whole-lacks, whole-refused, Leads}
+use Rattle.tn_modtext.proofs.DraftLaws.{written, Fresh, fresh-blank, grows, whole-found, whole-lacks, whole-refused, Leads}
 use Rattle.tn_modtext.proofs.DraftLaws.{whole_draft, leads-module, whole-draft}
 use Rattle.tn_modtext.proofs.Results.{then-ok}
 use Rattle.tn_modtext.proofs.SectionLaws.{told-fault, kept-fault}

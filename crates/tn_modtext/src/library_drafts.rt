@@ -5,7 +5,8 @@ ghost use Rattle.tn_text.specs.Reading.{Gives};
 ghost use Rattle.tn_modtext.specs.declared.library_lines.LibraryLine.TheVariants as library_line;
 ghost use Rattle.tn_modtext.specs.LibraryFaults.{lacks_endlib, library_ends_at};
 ghost use Rattle.tn_modtext.specs.Inner.Drafts.{drawn};
-ghost use Rattle.tn_modtext.specs.Inner.LibraryDrafts.{drawn_library, blank_library, with_draft, after_library_line, whole_library, library_read};
+ghost use Rattle.tn_modtext.specs.Inner.LibraryDrafts.{drawn_library, blank_library, with_draft, after_library_line, whole_library};
+ghost use Rattle.tn_modtext.specs.Inner.LibraryDrafts.{library_read};
 
 use crate::drafts::{Draft, is_end, lacks_end};
 use crate::library_lines::{LibraryLine, LibrarySection, library_line_at};

@@ -1,4 +1,4 @@
-use Rattle.std.proofs.Common.{◌≡◌, ℕ, Vec, Global, ◌+◌, List, [], ◌∷◌, ◌++◌, length, map, arith, append_assoc, Result, Ok, Err, sym, ap, subst, ◌∙◌}
+use Rattle.std.proofs.Common.{Vec, Global, [], ◌∷◌, ◌++◌, length, map, arith, append_assoc, Result, sym, ap, subst, ◌∙◌}
 use Rattle.std.specs.Result.{result_map_both}
 use Rattle.tn_text.specs.declared.faults.ReadFault.{ReadFault}
 use Rattle.tn_text.proofs.Results.{of-error}
@@ -6,7 +6,7 @@ use Rattle.tn_module.specs.declared.modules.Module.{Module}
 use Rattle.tn_module.specs.Modules.{module_of, IsShort}
 use Rattle.tn_modtext.specs.Lines.{lines_of}
 use Rattle.tn_modtext.specs.Libraries.{AreChecked}
-use Rattle.tn_modtext.proofs.LibraryLaws.{HasNextRoom, next-room, split-next, checked-next, checked-stopped}
+use Rattle.tn_modtext.proofs.LibraryLaws.{next-room, split-next, checked-next, checked-stopped}
 use Rattle.tn_modtext.proofs.libraries.all_checked.Goals as goal
 
 pub checked-requires-clause-short : goal.checked-requires-clause-short
@@ -21,7 +21,7 @@ checked-requires-clause-room c =
     (next-room (map module_of c.loop-raw.yielded) (module_of c.in-Some.raw) (map module_of c.next.new.self.rest.items)
     (map module_of c.args.raws.items) c.loop-raw.modules.items c.loop-raw.before c.loop-raw.invariant.0
     (split-next c.loop-raw.yielded c.loop-raw.raw-iterator.rest.items c.next.new.self.rest.items c.args.raws.items c.in-Some.raw
-    c.loop-raw.invariant.1 c.in-Some.ensures.steps.0) c.requires).room
+    c.loop-raw.invariant.1 c.in-Some.ensures.steps.0) c.requires).lines
 
 pub returns-in_err-module : goal.returns-in_err-module
 returns-in_err-module c =

@@ -1,9 +1,5 @@
-use Rattle.std.proofs.Common.{◌≡◌, ℕ, ◌+◌, ◌++◌, length, map, All}
-use Rattle.std.specs.List.{flat_map}
-use Rattle.tn_module.specs.Modules.{Parts, module_of}
-use Rattle.tn_module.specs.Validity.{IsValid}
-use Rattle.tn_module.specs.Ranges.{IsInRange}
-use Rattle.tn_modtext.specs.Lines.{lines_of}
+use Rattle.std.proofs.Common.{◌≡◌, ◌++◌, map}
+use Rattle.tn_module.specs.Modules.{module_of}
 use Rattle.tn_modtext.proofs.LibraryLaws.{IsCheckedTo}
 use Rattle.tn_modtext.proofs.libraries.all_checked.Given as goal
 

@@ -1,4 +1,4 @@
-use Rattle.std.proofs.Common.{◌≡◌, ℕ, Vec, Global, ◌+◌, List, length, map, arith, Result, Ok, Err, sym, ap, ◌∙◌}
+use Rattle.std.proofs.Common.{ℕ, Vec, Global, List, map, Result, Ok, Err, sym}
 use Rattle.std.specs.Result.{result_map_both}
 use Rattle.tn_text.specs.declared.faults.ReadFault.{ReadFault}
 use Rattle.tn_text.proofs.Results.{of-error}
