@@ -14,3 +14,4 @@ pub mod NumberLaws
 pub mod Fits
 pub mod Admitted
 pub mod ReadBack
+pub mod WriterLaws
