@@ -22,7 +22,6 @@ use Rattle.tn_asm.specs.declared.forms.Form.{Form}
 use Rattle.tn_asm.specs.declared.forms.Form.TheVariants as form
 use Rattle.tn_asm.specs.declared.forms.ItemForm.TheVariants as item_form
 use Rattle.tn_asm.specs.declared.forms.CellForm.TheVariants as cell_form
-use Rattle.tn_asm.specs.declared.said.TheConstants.{SPACE_LIMIT}
 use Rattle.tn_asm.specs.Said.{limited_at, operand_at, imported, as_item, as_cell, made, arguments_said}
 use Rattle.tn_asm.specs.Sources.{None_of, One_of, Two_of, ArgumentsSay}
 use Rattle.tn_asm.specs.SourceFaults.{refusal, Class, classes, first_refusal}
@@ -151,5 +150,5 @@ arguments_agree (form.Item item_form.Byte) args = one_agrees (limited_at 255) (a
 arguments_agree (form.Cell cell_form.Word) args = one_agrees number_at (as_cell cell.Word) args
 arguments_agree (form.Cell cell_form.Address) args = one_agrees (name_at NAME_LIMIT) (as_cell cell.Address) args
 arguments_agree (form.Cell cell_form.Byte) args = one_agrees (limited_at 255) (as_cell cell.Byte) args
-arguments_agree (form.Cell cell_form.Space) args = one_agrees (limited_at SPACE_LIMIT) (as_cell cell.Space) args
+arguments_agree (form.Cell cell_form.Space) args = one_agrees (limited_at 1048576) (as_cell cell.Space) args
 arguments_agree (form.Cell cell_form.Align) args = none_agrees (statement.Cell cell.Align) args

@@ -29,7 +29,6 @@ use Rattle.tn_asm.specs.declared.forms.ItemForm.{ItemForm}
 use Rattle.tn_asm.specs.declared.forms.ItemForm.TheVariants as item_form
 use Rattle.tn_asm.specs.declared.forms.CellForm.{CellForm}
 use Rattle.tn_asm.specs.declared.forms.CellForm.TheVariants as cell_form
-use Rattle.tn_asm.specs.declared.said.TheConstants.{SPACE_LIMIT}
 use Rattle.tn_asm.specs.Forms.{form_at, body_form, shaped}
 use Rattle.tn_asm.specs.Labels.{label_of, label_said}
 
@@ -76,7 +75,7 @@ abbrev pub cell_said : CellForm → List (List ℕ) → Result Statement Cause
 cell_said cell_form.Word args = one_token args (made number_at (as_cell cell.Word))
 cell_said cell_form.Address args = one_token args (made (name_at NAME_LIMIT) (as_cell cell.Address))
 cell_said cell_form.Byte args = one_token args (made (limited_at 255) (as_cell cell.Byte))
-cell_said cell_form.Space args = one_token args (made (limited_at SPACE_LIMIT) (as_cell cell.Space))
+cell_said cell_form.Space args = one_token args (made (limited_at 1048576) (as_cell cell.Space))
 cell_said cell_form.Align args = no_token args (statement.Cell cell.Align)
 
 abbrev pub arguments_said : Form → List (List ℕ) → Result Statement Cause

@@ -21,7 +21,6 @@ use Rattle.tn_asm.specs.declared.forms.Form.{Form}
 use Rattle.tn_asm.specs.declared.forms.Form.TheVariants as form
 use Rattle.tn_asm.specs.declared.forms.ItemForm.TheVariants as item_form
 use Rattle.tn_asm.specs.declared.forms.CellForm.TheVariants as cell_form
-use Rattle.tn_asm.specs.declared.said.TheConstants.{SPACE_LIMIT}
 use Rattle.tn_asm.specs.Forms.{form_at, body_form}
 use Rattle.tn_asm.specs.Labels.{label_of}
 use Rattle.tn_asm.specs.Said.{limited_at, operand_at}
@@ -65,7 +64,7 @@ classes (form.Item item_form.Byte) = a_number_to 255 ∷ []
 classes (form.Cell cell_form.Word) = a_number ∷ []
 classes (form.Cell cell_form.Address) = a_name ∷ []
 classes (form.Cell cell_form.Byte) = a_number_to 255 ∷ []
-classes (form.Cell cell_form.Space) = a_number_to SPACE_LIMIT ∷ []
+classes (form.Cell cell_form.Space) = a_number_to 1048576 ∷ []
 classes (form.Cell cell_form.Align) = []
 
 -- why the first token from the left is refused that is not of its class

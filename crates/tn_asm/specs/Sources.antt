@@ -22,7 +22,6 @@ use Rattle.tn_asm.specs.declared.forms.Form.{Form}
 use Rattle.tn_asm.specs.declared.forms.Form.TheVariants as form
 use Rattle.tn_asm.specs.declared.forms.ItemForm.TheVariants as item_form
 use Rattle.tn_asm.specs.declared.forms.CellForm.TheVariants as cell_form
-use Rattle.tn_asm.specs.declared.said.TheConstants.{SPACE_LIMIT}
 use Rattle.tn_asm.specs.Forms.{form_at, body_form}
 use Rattle.tn_asm.specs.Labels.{label_of, label_said}
 use Rattle.tn_asm.specs.Said.{limited_at, operand_at, imported, as_item, as_cell}
@@ -53,7 +52,7 @@ ArgumentsSay (form.Item item_form.Byte) args x = One_of (limited_at 255) (as_ite
 ArgumentsSay (form.Cell cell_form.Word) args x = One_of number_at (as_cell cell.Word) args x
 ArgumentsSay (form.Cell cell_form.Address) args x = One_of (name_at NAME_LIMIT) (as_cell cell.Address) args x
 ArgumentsSay (form.Cell cell_form.Byte) args x = One_of (limited_at 255) (as_cell cell.Byte) args x
-ArgumentsSay (form.Cell cell_form.Space) args x = One_of (limited_at SPACE_LIMIT) (as_cell cell.Space) args x
+ArgumentsSay (form.Cell cell_form.Space) args x = One_of (limited_at 1048576) (as_cell cell.Space) args x
 ArgumentsSay (form.Cell cell_form.Align) args x = None_of args (statement.Cell cell.Align) x
 
 -- ---- what a line says
