@@ -10,8 +10,10 @@ mod faults;
 mod flat_sources;
 mod layouts;
 mod loader;
+mod module_texts;
 mod modules;
 mod operations;
+mod sources;
 mod stores;
 mod streams;
 mod texts;
@@ -22,7 +24,7 @@ use tn_io::{HostOut, Out};
 use tn_tables::{Case, Line, Report, Stop, cases_of};
 
 /// The tables, in the order of what is printed.
-const TABLES: [&str; 11] = [
+const TABLES: [&str; 13] = [
     "commands",
     "stores",
     "texts",
@@ -34,6 +36,8 @@ const TABLES: [&str; 11] = [
     "loader",
     "streams",
     "modules",
+    "sources",
+    "module_texts",
 ];
 
 fn main(rt: HostRuntime) -> io::Result<()> {
@@ -115,6 +119,8 @@ fn answer(alloc: Global, table: &str, line: &Line<'_>) -> Result<Vec<u8>, Stop> 
         "codings" => codings::answer(alloc, line),
         "loader" => loader::answer(alloc, line),
         "streams" => streams::answer(alloc, line),
+        "sources" => sources::answer(alloc, line),
+        "module_texts" => module_texts::answer(alloc, line),
         _ => Err(Stop::BadCase),
     }
 }
