@@ -10,7 +10,6 @@ use Rattle.tn_symbols.specs.Choices.{exported, module_at}
 use Rattle.tn_symbols.specs.Definitions.{first_exporter, definition_in, definition_of}
 use Rattle.tn_symbols.specs.declared.choices.Definition.{Definition}
 use Rattle.tn_symbols.proofs.Exporting.{exporter-is, defined-some}
-use Rattle.tn_link.specs.declared.tables.Target.{Target}
 use Rattle.tn_link.specs.Places.{start, is_code_label, is_cell_label, item_target, cell_target, label, exported_label}
 use Rattle.tn_link.specs.Cells.{Frame, address}
 use Rattle.tn_link.proofs.Meanings.{exported-some}

@@ -1,5 +1,5 @@
 -- The items of valid modules can be coded, and the names that they use are found.
-use Rattle.std.proofs.Common.{◌≡◌, ℕ, zero, suc, ◌+◌, ◌<◌, ◌≤◌, Bool, true, false, List, [], ◌∷◌, length, map, Option, Some, None}
+use Rattle.std.proofs.Common.{◌≡◌, ℕ, zero, suc, ◌+◌, ◌<◌, ◌≤◌, true, List, length, map, Option, Some}
 use Rattle.std.proofs.Common.{is_some, refl, sym, ap, ◌∙◌, subst, arith, take, get_or}
 use Rattle.std.specs.Prelude.{All, slice_get}
 use Rattle.std.specs.Option.{option_or}
@@ -16,9 +16,8 @@ use Rattle.tn_module.specs.declared.modules.Item.{Item}
 use Rattle.tn_module.specs.declared.modules.Item.TheVariants as item
 use Rattle.tn_module.specs.declared.modules.Cell.{Cell}
 use Rattle.tn_module.specs.Modules.{Parts}
-use Rattle.tn_module.specs.Names.{is_among, is_code, takes, has_its_operand, item_uses, code_uses, cell_uses, address_uses}
-use Rattle.tn_module.specs.Names.{defined_names, code_names, used_as_code, used_as_cells, used_in_cells}
-use Rattle.tn_module.specs.Validity.{IsValid, AllAmong}
+use Rattle.tn_module.specs.Names.{is_among, takes, has_its_operand, item_uses, code_uses, cell_uses, address_uses}
+use Rattle.tn_module.specs.Names.{defined_names, code_names}
 use Rattle.tn_module.proofs.Recursion.{rec-from, rec-at, rec-at_flat, rec-map}
 use Rattle.tn_symbols.specs.Choices.{module_at}
 use Rattle.tn_symbols.specs.Definitions.{AreDefined}
@@ -31,7 +30,7 @@ use Rattle.tn_link.specs.declared.programs.Reach.TheVariants.{Number, To, Betwee
 use Rattle.tn_link.specs.declared.tables.Target.{Target}
 use Rattle.tn_link.specs.declared.tables.Start.{Start}
 use Rattle.tn_link.specs.Places.{item_count, cells_end, start, label_in, label, exported_label, meaning, told, target}
-use Rattle.tn_link.specs.Programs.{reach, element, module_elements, program, piece, pieces}
+use Rattle.tn_link.specs.Programs.{element, module_elements, program, piece, pieces}
 use Rattle.tn_link.specs.Inner.Tables.{AreFound, AreNear}
 use Rattle.tn_link.specs.Inner.Elements.{AreValid, IsUsable, IsFit, AreFit}
 use Rattle.tn_link.proofs.Ends.{items-more, start_from, start-at}

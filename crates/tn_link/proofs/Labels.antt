@@ -1,8 +1,8 @@
 -- Labels of items and of cells, one after the other.
-use Rattle.std.proofs.Common.{◌≡◌, ℕ, ◌+◌, ◌<◌, ◌≤◌, ◌⊎◌, inl, inr, Bool, true, false, ◌||◌, not, cond, List, [], ◌∷◌, ◌++◌, length}
+use Rattle.std.proofs.Common.{◌≡◌, ℕ, ◌+◌, ◌<◌, ◌≤◌, inl, inr, Bool, true, false, ◌||◌, not, cond, List, [], ◌∷◌, ◌++◌, length}
 use Rattle.std.proofs.Common.{get_or, take}
-use Rattle.std.proofs.Common.{Option, Some, None, is_some, refl, sym, ap, ◌∙◌, subst, arith, position, if◌then◌else◌}
-use Rattle.std.specs.Option.{option_or, option_map, option_map_or}
+use Rattle.std.proofs.Common.{Option, Some, None, refl, sym, ap, ◌∙◌, arith, position, if◌then◌else◌}
+use Rattle.std.specs.Option.{option_or, option_map}
 use Rattle.std.specs.List.{list_any, position_or_len}
 use Rattle.std.specs.Prelude.{nat_lt}
 use Rattle.std.proofs.lemmas.Bool.{cases_lt, lt-ltb, le-ltb, ne_eqb, eq-eqb}
@@ -10,7 +10,7 @@ use Rattle.std.proofs.lemmas.List.{length_push, take_more, length-take-le}
 use Rattle.std.proofs.lemmas.List.Folds.{position_or_len_push}
 use Rattle.tn_module.specs.declared.modules.Cell.{Cell}
 use Rattle.tn_module.specs.declared.modules.Cell.TheVariants as cell
-use Rattle.tn_module.specs.Names.{same_name, is_among, cell_label, cell_labels}
+use Rattle.tn_module.specs.Names.{same_name, is_among, cell_labels}
 use Rattle.tn_symbols.proofs.NameLists.{among-more, same-names}
 use Rattle.tn_link.specs.declared.tables.Target.{Target}
 use Rattle.tn_link.specs.Places.{is_cell_label}

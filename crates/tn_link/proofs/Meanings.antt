@@ -1,11 +1,10 @@
 -- The names that valid modules use stand for something, and code for code.
-use Rattle.std.proofs.Common.{◌≡◌, ℕ, zero, suc, ◌+◌, ◌<◌, ◌≤◌, ◌⊎◌, inl, inr, Bool, true, false, ◌||◌, List, [], ◌∷◌, ◌++◌, length}
-use Rattle.std.proofs.Common.{get_or, Option, Some, None}
+use Rattle.std.proofs.Common.{◌≡◌, ℕ, zero, suc, ◌+◌, ◌<◌, ◌≤◌, inl, inr, Bool, true, false, ◌||◌, List, [], ◌∷◌, ◌++◌, length}
+use Rattle.std.proofs.Common.{Option, Some, None}
 use Rattle.std.proofs.Common.{is_some, refl, sym, ap, ◌∙◌, subst, arith, position, take, if◌then◌else◌}
 use Rattle.std.specs.Prelude.{slice_get, option_and_then}
 use Rattle.std.specs.Option.{option_or, option_map}
-use Rattle.std.specs.List.{list_any, position_or_len, filter_map, cons_option, IsDistinct, AllByRecursion}
-use Rattle.std.specs.Cmp.Lexicographic.{nat_list_eq_equiv}
+use Rattle.std.specs.List.{position_or_len, filter_map, cons_option, IsDistinct, AllByRecursion}
 use Rattle.std.proofs.lemmas.Option.{none-some, same_Some}
 use Rattle.std.proofs.lemmas.List.{take_more, length-take-le, get_or-take}
 use Rattle.std.proofs.lemmas.List.Elements.{All-head, All-tail}
@@ -22,16 +21,16 @@ use Rattle.tn_module.specs.Names.{defined_names, code_names}
 use Rattle.tn_module.specs.Validity.{IsValid, AllAmong}
 use Rattle.tn_module.proofs.Distinct.{distinct-front}
 use Rattle.tn_module.proofs.NameLists.{among-append}
-use Rattle.tn_module.proofs.Recursion.{rec-split, rec-at}
+use Rattle.tn_module.proofs.Recursion.{rec-split}
 use Rattle.tn_symbols.specs.Choices.{module_at}
-use Rattle.tn_symbols.specs.Definitions.{first_exporter, kind_of, definition_in, definition_of, same_kind, IsDefined, AreDefined}
+use Rattle.tn_symbols.specs.Definitions.{first_exporter, kind_of, definition_in, same_kind, IsDefined, AreDefined}
 use Rattle.tn_symbols.specs.declared.choices.Definition.{Definition}
 use Rattle.tn_symbols.proofs.NameLists.{either, or-left, or-right, neither, not-both, same-names, same-itself}
 use Rattle.tn_symbols.proofs.Exporting.{exporter-is, exporter-more}
 use Rattle.tn_symbols.proofs.Labels.{any-label}
 use Rattle.tn_link.specs.declared.tables.Start.{Start}
 use Rattle.tn_link.specs.declared.tables.Target.{Target}
-use Rattle.tn_link.specs.Places.{item_count, cells_end, cell_offset, start, is_code_label, is_cell_label, item_target, cell_target}
+use Rattle.tn_link.specs.Places.{item_count, cells_end, start, is_code_label, is_cell_label, item_target, cell_target}
 use Rattle.tn_link.specs.Places.{label_in, label}
 use Rattle.tn_link.specs.Places.{exported_label, meaning, told, target}
 use Rattle.tn_link.specs.Inner.Tables.{AreNear, label_among}

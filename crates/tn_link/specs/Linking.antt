@@ -1,5 +1,5 @@
 -- What linking gives, and when it is refused.
-use Rattle.std.specs.Prelude.{◌≡◌, ⊤, ℕ, ◌+◌, ◌-◌, ◌*◌, ◌%◌, ◌^◌, ◌<◌, ◌≤◌, List, map, length, min, slice_index, All}
+use Rattle.std.specs.Prelude.{◌≡◌, ⊤, ℕ, ◌+◌, ◌-◌, ◌^◌, ◌<◌, ◌≤◌, List, map, length, min, slice_index, All}
 use Rattle.std.specs.List.{sum, flat_map, range_with_len}
 use Rattle.tn_text.specs.declared.limits.TheConstants.{ITEM_LIMIT, CELL_LIMIT, CODE_LIMIT}
 use Rattle.tn_word.specs.Words.{most_neg}

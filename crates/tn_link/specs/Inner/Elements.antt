@@ -1,9 +1,7 @@
 -- Items that can be coded.
-use Rattle.std.specs.Prelude.{◌≡◌, ⊤, ℕ, ◌≤◌, ◌<◌, true, List, length, All, Option}
-use Rattle.tn_isa.specs.declared.functions.Fun.{Fun}
+use Rattle.std.specs.Prelude.{⊤, ℕ, ◌≤◌, ◌<◌, List, length, All, Option}
 use Rattle.tn_isa.specs.OperandRegister.{IsCoded}
 use Rattle.tn_module.specs.declared.modules.Item.{Item}
-use Rattle.tn_module.specs.declared.modules.Item.TheVariants as item
 use Rattle.tn_module.specs.Modules.{Parts}
 use Rattle.tn_module.specs.Validity.{IsValid}
 use Rattle.tn_symbols.specs.Choices.{module_at}

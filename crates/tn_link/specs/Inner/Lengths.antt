@@ -1,5 +1,5 @@
 -- Why items got no sizes.
-use Rattle.std.specs.Prelude.{◌≡◌, ⊤, ℕ, List}
+use Rattle.std.specs.Prelude.{⊤, List}
 use Rattle.tn_layout.specs.declared.pieces.Piece.{Piece}
 use Rattle.tn_layout.specs.Sizes.{IsTooLong}
 use Rattle.tn_link.specs.declared.linking.LinkFault.{LinkFault}

@@ -1,4 +1,4 @@
-use Rattle.std.proofs.Common.{◌≡◌, ◌+◌, ◌<◌, ℕ, List, Some, length, get_or, ap, sym, ◌∙◌, arith, position}
+use Rattle.std.proofs.Common.{◌≡◌, ◌+◌, ℕ, List, Some, get_or, ap, sym, ◌∙◌, position}
 use Rattle.std.specs.Option.{option_map}
 use Rattle.std.proofs.lemmas.List.Quantifiers.{position-Some}
 use Rattle.tn_module.specs.declared.modules.Item.TheVariants as item

@@ -1,4 +1,4 @@
-use Rattle.std.proofs.Common.{◌≡◌, ◌+◌, ◌-◌, ◌++◌, [], ◌∷◌, ap, ◌∙◌, arith}
+use Rattle.std.proofs.Common.{◌+◌, ◌-◌, ◌++◌, [], ◌∷◌, ap, ◌∙◌, arith}
 use Rattle.tn_link.specs.declared.linking.Placed.{Placed}
 use Rattle.tn_link.specs.Places.{cell_offset}
 use Rattle.tn_link.specs.Linking.{placed_cell}

@@ -1,4 +1,4 @@
-use Rattle.std.proofs.Common.{◌≡◌, ◌+◌, ◌++◌, [], ◌∷◌, ap, ◌∙◌, arith, get_or}
+use Rattle.std.proofs.Common.{◌+◌, ◌++◌, [], ◌∷◌, ap, ◌∙◌, arith, get_or}
 use Rattle.tn_layout.specs.Sizes.{position}
 use Rattle.tn_link.specs.declared.linking.Placed.{Placed}
 use Rattle.tn_link.specs.Linking.{placed_item}

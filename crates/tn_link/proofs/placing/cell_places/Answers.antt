@@ -1,7 +1,6 @@
 use Rattle.std.proofs.Common.{◌≡◌, ◌+◌, ◌++◌, List, length, ap, ◌∙◌, arith}
-use Rattle.std.proofs.lemmas.List.Elements.{All-get_or}
 use Rattle.tn_module.specs.declared.modules.Cell.{Cell}
-use Rattle.tn_module.specs.Modules.{Parts, module_of, IsShort}
+use Rattle.tn_module.specs.Modules.{Parts, module_of}
 use Rattle.tn_symbols.specs.Choices.{module_at}
 use Rattle.tn_symbols.proofs.FirstFaults.{part-at}
 use Rattle.tn_link.specs.declared.tables.Start.{Start}

@@ -1,4 +1,4 @@
-use Rattle.std.proofs.Common.{◌≡◌, ◌∙◌, List, ℕ, Option, None, below_more, get_or, ap, refl, sym, subst, if◌then◌else◌}
+use Rattle.std.proofs.Common.{◌≡◌, ◌∙◌, List, ℕ, Option, None, below_more, get_or, ap, sym, subst, if◌then◌else◌}
 use Rattle.std.specs.Option.{option_or}
 use Rattle.indexmap.specs.IndexMap.{get}
 use Rattle.tn_module.specs.Modules.{Parts, module_of}
@@ -8,7 +8,7 @@ use Rattle.tn_symbols.specs.Choices.{module_at}
 use Rattle.tn_symbols.proofs.FirstFaults.{part-at}
 use Rattle.tn_link.specs.declared.tables.Start.{Start}
 use Rattle.tn_link.specs.declared.tables.Target.{Target}
-use Rattle.tn_link.specs.Places.{start, label_in, label}
+use Rattle.tn_link.specs.Places.{label_in}
 use Rattle.tn_link.proofs.Ends.{start_from, starts-long, start-at, items-fit, cells-fit}
 use Rattle.tn_link.proofs.Meanings.{exports-grown}
 use Rattle.tn_link.proofs.tables.exports.Goals as goal

@@ -1,11 +1,11 @@
-use Rattle.std.proofs.Common.{◌≡◌, ◌+◌, ◌-◌, ◌^◌, min, ◌++◌, [], ◌∷◌, length, take, ap, refl, sym, ◌∙◌, arith}
+use Rattle.std.proofs.Common.{◌≡◌, ◌-◌, ◌^◌, min, ◌++◌, [], ◌∷◌, length, take, ap, ◌∙◌, arith}
 use Rattle.tn_module.specs.Modules.{Parts, module_of}
 use Rattle.tn_module.specs.Names.{aligned}
 use Rattle.tn_symbols.specs.Choices.{module_at}
 use Rattle.tn_symbols.proofs.FirstFaults.{part-at}
 use Rattle.tn_link.specs.declared.tables.Start.{Start}
 use Rattle.tn_link.specs.Places.{cells_size, cells_end, start}
-use Rattle.tn_link.proofs.Ends.{ends-le, ends-more, cells-within, items-more, items-within, aligned-exact, size-exact, start_from, start-is}
+use Rattle.tn_link.proofs.Ends.{ends-le, ends-more, cells-within, items-more, aligned-exact, size-exact, start-is}
 use Rattle.tn_link.proofs.Ranges.{mapped-grown}
 use Rattle.tn_link.proofs.tables.starts.Goals as goal
 
