@@ -6,6 +6,7 @@
 
 mod codings;
 mod commands;
+mod configs;
 mod faults;
 mod flat_sources;
 mod layouts;
@@ -24,7 +25,7 @@ use tn_io::{HostOut, Out};
 use tn_tables::{Case, Line, Report, Stop, cases_of};
 
 /// The tables, in the order of what is printed.
-const TABLES: [&str; 13] = [
+const TABLES: [&str; 14] = [
     "commands",
     "stores",
     "texts",
@@ -38,6 +39,7 @@ const TABLES: [&str; 13] = [
     "modules",
     "sources",
     "module_texts",
+    "configs",
 ];
 
 fn main(rt: HostRuntime) -> io::Result<()> {
@@ -96,6 +98,7 @@ fn run_case(alloc: Global, table: &str, case: &Case<'_>, report: &mut Report) ->
         "stores" => stores::run_case(alloc, case, report),
         "layouts" => layouts::run_case(alloc, case, report),
         "modules" => modules::run_case(alloc, case, report),
+        "configs" => configs::run_case(alloc, case, report),
         table => run_lines(alloc, table, case, report),
     }
 }
