@@ -1,6 +1,6 @@
 -- How long the parts of a stream are, and that they are short enough for the words that tell it.
-use Rattle.std.proofs.Common.{◌≡◌, ℕ, zero, suc, ◌+◌, ◌*◌, ◌^◌, ◌<◌, ◌≤◌, List, [], ◌∷◌, ◌++◌, length, get_or, map, take, All, Option, Some}
-use Rattle.std.proofs.Common.{refl, sym, ap, ◌∙◌, subst, arith, length-append}
+use Rattle.std.proofs.Common.{◌≡◌, ℕ, suc, ◌+◌, ◌*◌, ◌<◌, ◌≤◌, List, [], ◌∷◌, ◌++◌, length, All}
+use Rattle.std.proofs.Common.{refl, ap, ◌∙◌, arith, length-append}
 use Rattle.std.specs.Prelude.{sum_by, slice_index_or}
 use Rattle.std.specs.List.{flat_map, AllByRecursion}
 use Rattle.std.proofs.Math.Nat.{mul-le-mul_right}
@@ -16,12 +16,11 @@ use Rattle.tn_net.specs.WholeTrees.{IsWholeTree}
 use Rattle.tn_stream.specs.declared.waves.Wave.{Wave}
 use Rattle.tn_stream.specs.declared.waves.Wave.TheVariants as wave
 use Rattle.tn_stream.specs.declared.length_tables.NodeLengths.{NodeLengths}
-use Rattle.tn_stream.specs.Images.{SegmentBytes, ImageBytes, segment_limit, IsSegment, IsImage, AreImages}
-use Rattle.tn_stream.specs.Streams.{Site, loader, load_of, loads_of, forwarded}
+use Rattle.tn_stream.specs.Images.{SegmentBytes, ImageBytes, IsSegment, IsImage, AreImages}
+use Rattle.tn_stream.specs.Streams.{Site, loader, load_of, loads_of}
 use Rattle.tn_stream.specs.LoadBranches.{no_image, no_branch, site_of, branches_from, branches, branch_at}
 use Rattle.tn_stream.specs.Lengths.{lengths_of, all_lengths}
 use Rattle.tn_stream.specs.Waves.{first_of, last_of, part_of, length_in}
-use Rattle.tn_stream.specs.Inner.LowLengths.{no_lengths}
 use Rattle.tn_stream.specs.Inner.Tables.{own_length}
 use Rattle.tn_stream.proofs.SingleStreams.{length-loader}
 use Rattle.tn_stream.proofs.Weights.{weight-bound}
@@ -78,7 +77,8 @@ sum-same : {X : Type 0} (f g : X → ℕ) → ((x : X) → f x ≡ g x) → (xs 
 sum-same f g same [] = refl
 sum-same f g same (x ∷ xs) = omega (arith, sum_by-cons f x xs, sum_by-cons g x xs, same x, sum-same f g same xs)
 
-module _ (images : List ImageBytes) (good : AreImages images) (nodes : List LoadNode) (whole : IsWholeTree nodes (length images)) (w : Wave) where
+module _ (images : List ImageBytes) (good : AreImages images) (nodes : List LoadNode) (whole : IsWholeTree nodes (length images))
+    (w : Wave) where
   -- what a child's part and its FORWARD have
   abbrev pub child_length : ℕ → ℕ
   child_length c = 12 + length (part_of w (branch_at images nodes c))
@@ -89,7 +89,8 @@ module _ (images : List ImageBytes) (good : AreImages images) (nodes : List Load
       let link : ℕ = (node_at nodes c).parent_link in
       omega (
         arith,
-        length-append (forward_command (out_channel_of link) (length (part_of w (branch_at images nodes c)))) (part_of w (branch_at images nodes c)),
+        length-append (forward_command (out_channel_of link) (length (part_of w (branch_at images nodes c))))
+            (part_of w (branch_at images nodes c)),
         length-command_bytes 1 (out_channel_of link) (length (part_of w (branch_at images nodes c))),
       )
 
@@ -118,7 +119,8 @@ module _ (images : List ImageBytes) (good : AreImages images) (nodes : List Load
   -- each part is short enough for a word
   pub part-bound : (k : ℕ) → k < length nodes → child_length k ≤ 201337152
   part-bound k inside =
-      let weight = weight-bound (length nodes) (λ c. (node_at nodes c).parent) (λ c p h is. parent-before nodes (length images) whole c p h is)
+      let weight = weight-bound (length nodes) (λ c. (node_at nodes c).parent)
+      (λ c p h is. parent-before nodes (length images) whole c p h is)
       child_length 3145893 weight_bounded k inside in
       let few : length nodes * 3145893 ≤ 64 * 3145893 = mul-le-mul_right 3145893 whole.few in
       omega (arith, weight, few)

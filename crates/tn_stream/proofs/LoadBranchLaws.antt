@@ -1,17 +1,17 @@
 -- The branch of a node of a whole tree is made of those of its children, and so is what it gets.
-use Rattle.std.proofs.Common.{◌≡◌, ℕ, zero, suc, ◌+◌, ◌-◌, ◌*◌, ◌<◌, ◌≤◌, Bool, true, false, cond, List, [], ◌∷◌, ◌++◌, length, map, All, Option, Some, None}
+use Rattle.std.proofs.Common.{◌≡◌, ℕ, zero, suc, ◌+◌, ◌-◌, ◌<◌, ◌≤◌, Bool, true, false, cond, List, [], ◌∷◌, ◌++◌, length, map, All}
+use Rattle.std.proofs.Common.{Option, Some, None}
 use Rattle.std.proofs.Common.{refl, sym, ap, ◌∙◌, subst, arith, length-append}
-use Rattle.std.specs.Prelude.{nat_eq, sum_by, slice_index_or}
+use Rattle.std.specs.Prelude.{slice_index_or}
 use Rattle.std.specs.List.{flat_map, AllByRecursion}
 use Rattle.std.proofs.lemmas.Bool.Decides.{nat_tests}
-use Rattle.std.proofs.lemmas.List.Concat.{length-flat_map}
 use Rattle.std.proofs.lemmas.List.Elements.{All-nil, All-push, All-weaker, recursion_from_All}
 use Rattle.std.proofs.lemmas.List.Folds.{flat_map-map}
 use Rattle.tn_net.specs.Trees.{LoadNode, node_at, children_below, is_parent}
 use Rattle.tn_net.specs.WholeTrees.{IsWholeTree}
 use Rattle.tn_stream.specs.declared.waves.Wave.{Wave}
 use Rattle.tn_stream.specs.Images.{ImageBytes}
-use Rattle.tn_stream.specs.Branches.{Children, Branch}
+use Rattle.tn_stream.specs.Branches.{Branch}
 use Rattle.tn_stream.specs.Streams.{Site, forwarded, wave, wave_below}
 use Rattle.tn_stream.specs.LoadBranches.{no_branch, site_of, hung, branches_from, branches, branch_at}
 use Rattle.tn_stream.specs.Waves.{first_of, last_of, part_of}
@@ -120,7 +120,8 @@ module _ (images : List ImageBytes) where
     abbrev pub linked : ℕ → ℕ × Branch Site
     linked c = ((node_at nodes c).parent_link, branch_at images nodes c)
 
-    from_start : (k : ℕ) → k < length nodes → slice_index_or (branches images nodes) k no_branch ≡ entry (branches images nodes) 0 (node_at nodes k)
+    from_start : (k : ℕ) → k < length nodes → slice_index_or (branches images nodes) k no_branch
+        ≡ entry (branches images nodes) 0 (node_at nodes k)
     from_start k inside =
         entry-at nodes 0 k inside (All-weaker (IsBehind nodes k) (λ c. 0 + k < c) (λ c b. let less = b.behind in omega (arith, less))
         (node_at nodes k).children (children-behind nodes count k whole inside))
@@ -132,7 +133,8 @@ module _ (images : List ImageBytes) where
         ≡ record { root = site_of images (node_at nodes k); below = hung (map linked (node_at nodes k).children) }
     branch-is k inside =
         ap (λ x. x.1) (from_start k inside) ∙ ap (λ bs. record { root = site_of images (node_at nodes k); below = hung bs })
-        (map-same-All (IsBehind nodes k) (λ c. slice_index_or (branches images nodes) (c - 0) no_branch) linked (node_at nodes k).children here
+        (map-same-All (IsBehind nodes k) (λ c. slice_index_or (branches images nodes) (c - 0) no_branch)
+        linked (node_at nodes k).children here
         (children-behind nodes count k whole inside))
       where
         here : (c : ℕ) → IsBehind nodes k c → slice_index_or (branches images nodes) (c - 0) no_branch ≡ linked c

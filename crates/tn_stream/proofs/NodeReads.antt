@@ -1,11 +1,11 @@
 -- What the code reads of nodes and images is what the definitions speak of.
-use Rattle.std.proofs.Common.{◌≡◌, ℕ, ◌<◌, List, length, get_or, map, refl, sym, ap, ◌∙◌, subst, arith}
+use Rattle.std.proofs.Common.{◌≡◌, ℕ, ◌<◌, List, length, get_or, sym, ap, ◌∙◌, subst}
 use Rattle.std.specs.Prelude.{slice_index_or}
 use Rattle.std.proofs.lemmas.List.{get_or-map, get_or_default, length-map}
 use Rattle.tn_net.specs.Trees.{LoadNode, node_at}
 use Rattle.tn_net.specs.WholeTrees.{IsWholeTree}
 use Rattle.tn_stream.specs.declared.images.Image.{Image}
-use Rattle.tn_stream.specs.Images.{ImageBytes, image_of, images_of, IsImage, AreImages}
+use Rattle.tn_stream.specs.Images.{image_of, images_of}
 use Rattle.tn_stream.specs.LoadBranches.{no_image, site_of}
 
 -- a node that was read, by its view

@@ -2,7 +2,7 @@
 use Rattle.std.proofs.Common.{◌≡◌, ℕ, List, [], ◌++◌, Result, Ok, Err, IsErr, subst}
 use Rattle.tn_text.specs.declared.puts.PutRefused.{PutRefused}
 use Rattle.tn_text.specs.Puts.{Taken, Puts}
-use Rattle.tn_text.proofs.Putting.{Puts-nothing, Puts-as, Puts-joined, Puts-stopped, Puts-refused}
+use Rattle.tn_text.proofs.Putting.{Puts-nothing, Puts-joined, Puts-stopped}
 use Rattle.tn_io.specs.declared.faults.OutFault.{OutFault}
 use Rattle.tn_io.specs.Outs.{Printed, Prints}
 

@@ -1,5 +1,6 @@
 -- The table of lengths, filled from its last node on.
-use Rattle.std.proofs.Common.{◌≡◌, ℕ, suc, ◌+◌, ◌^◌, ◌<◌, ◌≤◌, Bool, true, false, List, ◌++◌, length, get_or, set, take, All, length-append, refl, sym, ap, ◌∙◌, subst, arith}
+use Rattle.std.proofs.Common.{◌≡◌, ℕ, ◌+◌, ◌^◌, ◌<◌, ◌≤◌, Bool, true, false, List, ◌++◌, length, get_or, set, take, All}
+use Rattle.std.proofs.Common.{length-append, refl, sym, ap, ◌∙◌, subst, arith}
 use Rattle.std.specs.Prelude.{nat_eq, sum_by, slice_index_or}
 use Rattle.std.proofs.lemmas.List.Elements.{All-weaker}
 use Rattle.std.proofs.lemmas.Bool.Decides.{nat_tests}
@@ -17,7 +18,8 @@ use Rattle.tn_stream.specs.Lengths.{lengths_of, all_lengths, bytes_received, ste
 use Rattle.tn_stream.specs.Waves.{part_of, length_in}
 use Rattle.tn_stream.specs.Inner.LowLengths.{no_lengths, IsLow}
 use Rattle.tn_stream.specs.Inner.Tables.{HasLengths, own_length, child_length_in}
-use Rattle.tn_stream.proofs.LengthLaws.{child_length, length-part, part-bound, part-some, length-all_lengths, lengths-at, length_in-of, sum-same-All}
+use Rattle.tn_stream.proofs.LengthLaws.{child_length, length-part, part-bound, part-some, length-all_lengths, lengths-at, length_in-of}
+use Rattle.tn_stream.proofs.LengthLaws.{sum-same-All}
 use Rattle.tn_stream.proofs.LoadBranchLaws.{IsBehind, children-behind}
 
 module _ (images : List ImageBytes) (nodes : List LoadNode) where
@@ -92,7 +94,8 @@ module _ (images : List ImageBytes) (nodes : List LoadNode) where
   stream-length k =
       omega (
         arith,
-        length-append (load_part (branch_at images nodes k) ++ sync_part (branch_at images nodes k)) (start_part (branch_at images nodes k)),
+        length-append (load_part (branch_at images nodes k) ++ sync_part (branch_at images nodes k))
+            (start_part (branch_at images nodes k)),
         length-append (load_part (branch_at images nodes k)) (sync_part (branch_at images nodes k)),
       )
 
@@ -111,13 +114,15 @@ module _ (images : List ImageBytes) (good : AreImages images) (nodes : List Load
   pub children-places : (table : List NodeLengths) (k : ℕ) → HasLengths images nodes (k + 1) table → k < length nodes
       → All (λ c. c < length table) (node_at nodes k).children
   children-places table k has inside =
-      All-weaker (IsBehind nodes k) (λ c. c < length table) at (node_at nodes k).children (children-behind nodes (length images) k whole inside)
+      All-weaker (IsBehind nodes k) (λ c. c < length table) at (node_at nodes k).children
+      (children-behind nodes (length images) k whole inside)
     where
       at : (c : ℕ) → IsBehind nodes k c → c < length table
       at c b = let here = b.within in let few = whole.few in let room = has.room in omega (arith, here, few, room)
 
   pub children-sum : (w : Wave) (table : List NodeLengths) (k : ℕ) → HasLengths images nodes (k + 1) table → k < length nodes
-      → sum_by (child_length_in w table) (node_at nodes k).children ≡ sum_by (child_length images good nodes whole w) (node_at nodes k).children
+      → sum_by (child_length_in w table) (node_at nodes k).children
+      ≡ sum_by (child_length images good nodes whole w) (node_at nodes k).children
   children-sum w table k has inside =
       sum-same-All (IsBehind nodes k) (child_length_in w table) (child_length images good nodes whole w) at (node_at nodes k).children
       (children-behind nodes (length images) k whole inside)
@@ -147,7 +152,8 @@ module _ (images : List ImageBytes) (good : AreImages images) (nodes : List Load
   pub steps-places : (table : List NodeLengths) (k : ℕ) → table ≡ all_lengths images nodes → k < length nodes
       → All (λ c. c < length table) (node_at nodes k).children
   steps-places table k is inside =
-      All-weaker (IsBehind nodes k) (λ c. c < length table) at (node_at nodes k).children (children-behind nodes (length images) k whole inside)
+      All-weaker (IsBehind nodes k) (λ c. c < length table) at (node_at nodes k).children
+      (children-behind nodes (length images) k whole inside)
     where
       at : (c : ℕ) → IsBehind nodes k c → c < length table
       at c b = let here = b.within in omega (arith, here, table-length images nodes table is)

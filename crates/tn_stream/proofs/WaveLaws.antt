@@ -1,5 +1,6 @@
 -- What a node gets in a wave, child by child.
-use Rattle.std.proofs.Common.{◌≡◌, ℕ, ◌+◌, ◌<◌, List, [], ◌∷◌, ◌++◌, length, get_or, take, drop, All, refl, sym, ap, ◌∙◌, subst, arith, append_assoc, append-nil}
+use Rattle.std.proofs.Common.{◌≡◌, ℕ, ◌+◌, ◌<◌, List, [], ◌∷◌, ◌++◌, length, get_or, take, drop, All, sym, ap, ◌∙◌, subst}
+use Rattle.std.proofs.Common.{append_assoc, append-nil}
 use Rattle.std.specs.List.{flat_map}
 use Rattle.std.proofs.lemmas.List.{take_more, take-append-drop}
 use Rattle.std.proofs.lemmas.List.Concat.{flat_map-append}
@@ -13,7 +14,8 @@ use Rattle.tn_stream.specs.Inner.Tables.{forward_to, child_bytes}
 use Rattle.tn_stream.proofs.LoadBranchLaws.{IsBehind, children-behind, part-is}
 
 -- a list of bytes for each of some places, up to one of them
-bytes-more : (f : ℕ → List ℕ) (cs : List ℕ) (i : ℕ) → i < length cs → flat_map f (take (i + 1) cs) ≡ flat_map f (take i cs) ++ f (get_or cs i 0)
+bytes-more : (f : ℕ → List ℕ) (cs : List ℕ) (i : ℕ) → i < length cs
+    → flat_map f (take (i + 1) cs) ≡ flat_map f (take i cs) ++ f (get_or cs i 0)
 bytes-more f cs i inside =
     ap (flat_map f) (take_more cs i 0 inside) ∙ (flat_map-append f (take i cs) (get_or cs i 0 ∷ [])
     ∙ ap (λ xs. flat_map f (take i cs) ++ xs) (append-nil (f (get_or cs i 0))))

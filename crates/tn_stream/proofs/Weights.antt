@@ -1,7 +1,8 @@
 -- In a list of nodes whose parents stand before them, what a node and all below it weigh is at most
 -- what all nodes weigh.
-use Rattle.std.proofs.Common.{◌≡◌, ℕ, zero, suc, ◌+◌, ◌-◌, ◌*◌, ◌<◌, ◌≤◌, Bool, true, false, ◌&&◌, cond, List, [], ◌∷◌, ◌++◌, Option, Some, None, refl, sym, ap, ◌∙◌, subst, arith}
-use Rattle.std.specs.Prelude.{nat_lt, nat_le, nat_eq, sum_by}
+use Rattle.std.proofs.Common.{◌≡◌, ℕ, zero, suc, ◌+◌, ◌-◌, ◌*◌, ◌<◌, ◌≤◌, Bool, true, false, ◌&&◌, cond, [], ◌∷◌, ◌++◌, Option}
+use Rattle.std.proofs.Common.{Some, None, refl, ap, ◌∙◌, subst, arith}
+use Rattle.std.specs.Prelude.{nat_lt, nat_le, sum_by}
 use Rattle.std.proofs.Math.Nat.{mul-le-mul_right}
 use Rattle.std.proofs.lemmas.Bool.Decides.{nat_tests}
 use Rattle.std.proofs.lemmas.List.Sums.{sum_by_push}
@@ -31,7 +32,8 @@ module _ (n : ℕ) (parent : ℕ → Option ℕ) (before : (c p : ℕ) → c < n
   below-more : (k c : ℕ) → below k (suc c) ≡ below k c + cond (is_parent (parent c) k) (weigh c) 0
   below-more k c = at (is_parent (parent c) k)
     where
-      at : (b : Bool) → sum_by weigh (cond b (children_below parent k c ++ c ∷ []) (children_below parent k c)) ≡ below k c + cond b (weigh c) 0
+      at : (b : Bool) → sum_by weigh (cond b (children_below parent k c ++ c ∷ []) (children_below parent k c))
+          ≡ below k c + cond b (weigh c) 0
       at true = sum_by_push weigh (children_below parent k c) c
       at false = omega arith
 

@@ -2,7 +2,7 @@
 use Rattle.std.specs.Prelude.{ℕ, ◌+◌, ◌-◌, List, [], ◌∷◌, map, slice_index_or}
 use Rattle.tn_net.specs.Trees.{LoadNode}
 use Rattle.tn_stream.specs.Images.{ImageBytes}
-use Rattle.tn_stream.specs.Branches.{Children, Branch, alone}
+use Rattle.tn_stream.specs.Branches.{Children, Branch}
 use Rattle.tn_stream.specs.Branches.Children.{none, child}
 use Rattle.tn_stream.specs.Streams.{Site, one_processor}
 

@@ -30,7 +30,8 @@ use tn_word::{out_channel, word_bytes};
 pub fn collect<E: Out>(tree: &Tree, images: &[Image], emit: &mut E) -> Result<u64, StreamFault>
     requires whole { IsWholeTree tree.now.nodes.items (length images.now) }
     requires images { AreImages (images_of images.now) }
-    ensures emits { Emits (stream (whole_branch (images_of images.now) tree.now.nodes.items)) result (E.printed emit.old) (E.printed emit.new) }
+    ensures emits { Emits (stream (whole_branch (images_of images.now) tree.now.nodes.items)) result
+        (E.printed emit.old) (E.printed emit.new) }
     ensures goes_on { E.goes_on emit.old emit.new }
 {
     let table = lengths(tree, images);
@@ -47,7 +48,8 @@ pub fn collect_with<E: Out>(
     requires whole { IsWholeTree tree.now.nodes.items (length images.now) }
     requires images { AreImages (images_of images.now) }
     requires lengths { lengths.now ≡ all_lengths (images_of images.now) tree.now.nodes.items }
-    ensures prints { Prints (stream (whole_branch (images_of images.now) tree.now.nodes.items)) result (E.printed emit.old) (E.printed emit.new) }
+    ensures prints { Prints (stream (whole_branch (images_of images.now) tree.now.nodes.items)) result
+        (E.printed emit.old) (E.printed emit.new) }
     ensures count { IfOk result (λ n. n ≡ length (stream (whole_branch (images_of images.now) tree.now.nodes.items))) }
     ensures goes_on { E.goes_on emit.old emit.new }
 {
@@ -71,7 +73,8 @@ fn emit_wave<E: Out>(
     requires images { AreImages (images_of images.now) }
     requires lengths { lengths.now ≡ all_lengths (images_of images.now) tree.now.nodes.items }
     requires here { k < length tree.now.nodes.items }
-    ensures prints { Prints (part_of wave (branch_at (images_of images.now) tree.now.nodes.items k)) result (E.printed emit.old) (E.printed emit.new) }
+    ensures prints { Prints (part_of wave (branch_at (images_of images.now) tree.now.nodes.items k)) result
+        (E.printed emit.old) (E.printed emit.new) }
     ensures goes_on { E.goes_on emit.old emit.new }
 {
     let node = &tree.nodes[k];
@@ -97,7 +100,8 @@ fn emit_forward<E: Out>(
     requires images { AreImages (images_of images.now) }
     requires lengths { lengths.now ≡ all_lengths (images_of images.now) tree.now.nodes.items }
     requires here { c < length tree.now.nodes.items }
-    ensures prints { Prints (forward_to wave (images_of images.now) tree.now.nodes.items c) result (E.printed emit.old) (E.printed emit.new) }
+    ensures prints { Prints (forward_to wave (images_of images.now) tree.now.nodes.items c) result
+        (E.printed emit.old) (E.printed emit.new) }
     ensures goes_on { E.goes_on emit.old emit.new }
 {
     let channel = out_channel(tree.nodes[c].parent_link);
@@ -108,7 +112,8 @@ fn emit_forward<E: Out>(
 fn emit_first<E: Out>(wave: Wave, k: u8, image: &Image, emit: &mut E) -> Result<(), OutFault>
     requires link { k < 4 }
     requires image { IsImage (image_of image.now) }
-    ensures prints { Prints (first_of wave (record { boot = k; image = image_of image.now })) result (E.printed emit.old) (E.printed emit.new) }
+    ensures prints { Prints (first_of wave (record { boot = k; image = image_of image.now })) result
+        (E.printed emit.old) (E.printed emit.new) }
     ensures goes_on { E.goes_on emit.old emit.new }
 {
     match wave {
@@ -120,7 +125,8 @@ fn emit_first<E: Out>(wave: Wave, k: u8, image: &Image, emit: &mut E) -> Result<
 
 /// Emits what a processor gets last in a wave.
 fn emit_last<E: Out>(wave: Wave, k: u8, image: &Image, emit: &mut E) -> Result<(), OutFault>
-    ensures prints { Prints (last_of wave (record { boot = k; image = image_of image.now })) result (E.printed emit.old) (E.printed emit.new) }
+    ensures prints { Prints (last_of wave (record { boot = k; image = image_of image.now })) result
+        (E.printed emit.old) (E.printed emit.new) }
     ensures goes_on { E.goes_on emit.old emit.new }
 {
     match wave {

@@ -1,5 +1,5 @@
 -- Lengths as a table holds them.
-use Rattle.std.specs.Prelude.{ℕ, ◌^◌, ◌<◌}
+use Rattle.std.specs.Prelude.{◌^◌, ◌<◌}
 use Rattle.tn_stream.specs.declared.length_tables.NodeLengths.{NodeLengths}
 
 -- what stands where no lengths do

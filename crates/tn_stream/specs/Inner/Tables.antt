@@ -1,5 +1,5 @@
 -- The table of lengths while it is filled, from its last node on.
-use Rattle.std.specs.Prelude.{◌≡◌, ℕ, ◌+◌, ◌^◌, ◌<◌, ◌≤◌, List, ◌++◌, length, slice_index_or}
+use Rattle.std.specs.Prelude.{◌≡◌, ℕ, ◌+◌, ◌<◌, ◌≤◌, List, ◌++◌, length, slice_index_or}
 use Rattle.tn_text.specs.declared.limits.TheConstants.{PROCESSOR_LIMIT}
 use Rattle.tn_word.specs.Channels.{out_channel_of}
 use Rattle.tn_loader.specs.Commands.{forward_command}

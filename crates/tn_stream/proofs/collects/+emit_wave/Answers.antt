@@ -1,13 +1,12 @@
-use Rattle.std.proofs.Common.{rules, ◌≡◌, ℕ, ◌+◌, ◌++◌, ◌<◌, List, length, get_or, take, drop, append-nil, refl, arith, subst, sym, ap, ◌∙◌}
+use Rattle.std.proofs.Common.{rules, ◌≡◌, ◌++◌, ◌<◌, length, get_or, append-nil, refl, arith, subst, sym, ap, ◌∙◌}
 use Rattle.std.proofs.lemmas.List.{take_all}
 use Rattle.tn_net.specs.Trees.{LoadNode, node_at}
-use Rattle.tn_stream.specs.Images.{images_of, image_of, IsImage}
-use Rattle.tn_stream.specs.LoadBranches.{site_of, branch_at}
-use Rattle.tn_stream.specs.Waves.{first_of, last_of, part_of}
+use Rattle.tn_stream.specs.Images.{images_of, IsImage}
+use Rattle.tn_stream.specs.LoadBranches.{site_of}
+use Rattle.tn_stream.specs.Waves.{first_of, last_of}
 use Rattle.tn_stream.proofs.NodeReads.{node-read, image-read, site-read, whole-images}
 use Rattle.tn_stream.proofs.LengthLaws.{image-at}
-use Rattle.tn_stream.proofs.LoadBranchLaws.{IsBehind}
-use Rattle.tn_stream.proofs.WaveLaws.{bytes_to, back_bytes, part-first, part-more, part-child, part-forward, part-end, child-behind}
+use Rattle.tn_stream.proofs.WaveLaws.{bytes_to, part-first, part-more, part-child, part-forward, part-end, child-behind}
 use Rattle.tn_stream.proofs.Printing.{Prints-as, Prints-joined, Prints-stopped, Prints-refused}
 use Rattle.tn_stream.proofs.collects.+emit_wave.Goals as goal
 

@@ -1,4 +1,4 @@
-use Rattle.std.proofs.Common.{◌≡◌, ◌-◌, ◌++◌, length, take, Ok}
+use Rattle.std.proofs.Common.{◌-◌, ◌++◌, length, take, Ok}
 use Rattle.std.specs.List.{flat_map}
 use Rattle.tn_io.specs.Outs.{Prints}
 use Rattle.tn_net.specs.Trees.{node_at}

@@ -1,4 +1,4 @@
-use Rattle.std.proofs.Common.{◌≡◌, ℕ, length, arith, sym, ap, ◌∙◌}
+use Rattle.std.proofs.Common.{◌≡◌, length, arith, sym, ap, ◌∙◌}
 use Rattle.tn_word.specs.Channels.{out_channel_of}
 use Rattle.tn_loader.specs.Commands.{command_bytes}
 use Rattle.tn_net.specs.Trees.{LoadNode, node_at}

@@ -1,4 +1,4 @@
-use Rattle.std.proofs.Common.{◌≡◌, ℕ, List, ◌∷◌, ◌++◌, append_assoc, sym, ap}
+use Rattle.std.proofs.Common.{ℕ, List, ◌∷◌, ◌++◌, append_assoc, sym, ap}
 use Rattle.tn_word.specs.Words.{bytes_of_word}
 use Rattle.tn_loader.specs.Primary.{primary_bytes}
 use Rattle.tn_loader.specs.Secondary.{secondary_bytes}

@@ -1,4 +1,4 @@
-use Rattle.std.proofs.Common.{◌≡◌, ◌+◌, drop, sym}
+use Rattle.std.proofs.Common.{◌+◌, drop, sym}
 use Rattle.tn_stream.specs.Images.{segments_of, IsSegment}
 use Rattle.tn_stream.specs.Streams.{loads_of}
 use Rattle.tn_stream.proofs.Loads.{segment-at, loads-split}
@@ -7,7 +7,8 @@ use Rattle.tn_stream.proofs.collects.emit_loads.Goals as goal
 
 pub emit_load-requires : goal.emit_load-requires
 emit_load-requires g c =
-    segment-at IsSegment c.args.segments.now c.loop-segment.segment-index c.segment-item.result c.requires c.loop-segment-test.true c.segment-item.is
+    segment-at IsSegment c.args.segments.now c.loop-segment.segment-index c.segment-item.result
+    c.requires c.loop-segment-test.true c.segment-item.is
 
 pub returns-in_err-emit_load-clause-prints : goal.returns-in_err-emit_load-clause-prints
 returns-in_err-emit_load-clause-prints g c =

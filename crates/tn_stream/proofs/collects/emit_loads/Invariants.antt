@@ -1,4 +1,4 @@
-use Rattle.std.proofs.Common.{◌≡◌, take, Ok}
+use Rattle.std.proofs.Common.{take, Ok}
 use Rattle.tn_io.specs.Outs.{Prints}
 use Rattle.tn_stream.specs.Images.{segments_of}
 use Rattle.tn_stream.specs.Streams.{loads_of}

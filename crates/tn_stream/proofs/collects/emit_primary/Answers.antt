@@ -1,4 +1,3 @@
-use Rattle.std.proofs.Common.{◌≡◌, ap, ◌∙◌}
 use Rattle.tn_loader.specs.Primary.{primary_bytes}
 use Rattle.tn_stream.proofs.Printing.{Prints-as, Prints-joined, Prints-stopped, Prints-refused}
 use Rattle.tn_stream.proofs.collects.emit_primary.Goals as goal

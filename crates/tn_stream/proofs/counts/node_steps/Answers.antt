@@ -1,9 +1,9 @@
-use Rattle.std.proofs.Common.{◌≡◌, ℕ, ◌+◌, ◌*◌, ◌<◌, ◌≤◌, length, All, arith, subst, sym, ap, ◌∙◌}
+use Rattle.std.proofs.Common.{◌≡◌, ℕ, ◌+◌, ◌*◌, ◌<◌, length, All, arith, subst, sym, ap, ◌∙◌}
 use Rattle.std.specs.Prelude.{sum_by, slice_index_or}
 use Rattle.tn_net.specs.Trees.{LoadNode, node_at}
 use Rattle.tn_stream.specs.declared.waves.Wave.TheVariants as wave
 use Rattle.tn_stream.specs.declared.length_tables.NodeLengths.{NodeLengths}
-use Rattle.tn_stream.specs.Images.{ImageBytes, images_of, image_of, IsImage}
+use Rattle.tn_stream.specs.Images.{ImageBytes, images_of, IsImage}
 use Rattle.tn_stream.specs.Lengths.{steps_to}
 use Rattle.tn_stream.specs.Inner.LowLengths.{no_lengths}
 use Rattle.tn_stream.proofs.NodeReads.{node-read, image-read, whole-images}
@@ -33,7 +33,8 @@ forwards_steps-requires-clause-places c =
     ∙ sym c.deref.ensures.value in
     subst (λ cs. All (λ i. i < length c.args.table.now) cs) children
     (steps-places (images_of c.args.images.now) c.requires.images c.args.tree.now.nodes.items
-    (whole-images c.args.images.now c.args.tree.now.nodes.items c.requires.whole) c.args.table.now c.args.k c.requires.lengths c.requires.here)
+    (whole-images c.args.images.now c.args.tree.now.nodes.items c.requires.whole)
+    c.args.table.now c.args.k c.requires.lengths c.requires.here)
 
 pub forwards_steps-requires-clause-low : goal.forwards_steps-requires-clause-low
 forwards_steps-requires-clause-low c =

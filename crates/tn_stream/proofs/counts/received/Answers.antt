@@ -1,4 +1,4 @@
-use Rattle.std.proofs.Common.{◌≡◌, ℕ, ◌+◌, length, arith, sym, ap, ◌∙◌}
+use Rattle.std.proofs.Common.{◌+◌, arith, ap, ◌∙◌}
 use Rattle.tn_stream.specs.declared.length_tables.NodeLengths.{NodeLengths}
 use Rattle.tn_stream.specs.Images.{images_of}
 use Rattle.tn_stream.proofs.TableLaws.{table-at, table-length}

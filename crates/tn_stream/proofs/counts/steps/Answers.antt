@@ -1,4 +1,4 @@
-use Rattle.std.proofs.Common.{◌≡◌, ℕ, ◌+◌, ◌<◌, [], length, None, arith}
+use Rattle.std.proofs.Common.{ℕ, ◌<◌, [], length, None, arith}
 use Rattle.tn_net.specs.Trees.{LoadNode}
 use Rattle.tn_stream.specs.Images.{images_of}
 use Rattle.tn_stream.specs.Lengths.{node_steps}

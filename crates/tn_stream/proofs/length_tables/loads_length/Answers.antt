@@ -1,4 +1,4 @@
-use Rattle.std.proofs.Common.{◌≡◌, ℕ, ◌+◌, ◌*◌, ◌≤◌, length, take, ap, ◌∙◌, arith, length-append}
+use Rattle.std.proofs.Common.{length, take, ap, arith, length-append}
 use Rattle.tn_stream.specs.Images.{segment_of, segments_of, IsSegment}
 use Rattle.tn_stream.specs.Streams.{load_of, loads_of}
 use Rattle.tn_stream.proofs.Loads.{segment-at, loads_of-more}
@@ -21,5 +21,7 @@ loop-segment-preserved c =
     c.segment-item.is) in
     let joined = length-append (loads_of (segments_of (take c.loop-segment.segment-index c.args.segments.now)))
     (load_of (segment_of c.segment-item.result)) in
-    let one = length-load (segment_of c.segment-item.result) in
-    (omega (arith, more, joined, one, c.len.ensures, c.loop-segment.invariant.0), omega (arith, small, c.len.ensures, c.loop-segment.invariant.1))
+    let one = length-load (segment_of c.segment-item.result) in (
+      omega (arith, more, joined, one, c.len.ensures, c.loop-segment.invariant.0),
+      omega (arith, small, c.len.ensures, c.loop-segment.invariant.1),
+    )

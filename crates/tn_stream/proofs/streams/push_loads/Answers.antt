@@ -6,7 +6,8 @@ use Rattle.tn_stream.proofs.streams.push_loads.Goals as goal
 
 pub push_load-requires : goal.push_load-requires
 push_load-requires c =
-    segment-at IsLoadable c.args.segments.now c.loop-segment.segment-index c.segment-item.result c.requires c.loop-segment-test.true c.segment-item.is
+    segment-at IsLoadable c.args.segments.now c.loop-segment.segment-index c.segment-item.result
+    c.requires c.loop-segment-test.true c.segment-item.is
 
 pub loop-segment-preserved : goal.loop-segment-preserved
 loop-segment-preserved c =

@@ -1,4 +1,4 @@
-use Rattle.std.proofs.Common.{◌≡◌, ◌<◌, length, take, arith, subst, sym}
+use Rattle.std.proofs.Common.{◌<◌, length, take, arith, subst, sym}
 use Rattle.std.proofs.lemmas.List.{get_or-take}
 use Rattle.tn_stream.specs.Inner.LowLengths.{no_lengths, IsLow}
 use Rattle.tn_stream.proofs.length_tables.LengthTable.at.Goals as goal
