@@ -9,3 +9,4 @@ pub mod TableLaws
 pub mod CountLaws
 pub mod NodeReads
 pub mod WaveLaws
+pub mod SingleTrees
