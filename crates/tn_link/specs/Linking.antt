@@ -19,13 +19,13 @@ use Rattle.tn_link.specs.Cells.{Frame, frame, cells}
 -- the place, address and size of the item at place i of the module at place m, whose items begin at
 -- a place of the program
 abbrev pub placed_item : Frame → ℕ → ℕ → ℕ → Placed
-placed_item f m from i = record {
-  «module» = m;
-  item = i;
-  address = f.code_base + position f.sizes
-      (from + i);
-  size = slice_index f.sizes (from + i);
-}
+placed_item f m from i =
+    record {
+      «module» = m;
+      item = i;
+      address = f.code_base + position f.sizes (from + i);
+      size = slice_index f.sizes (from + i);
+    }
 
 -- and of a cell of a module whose cells begin at an address
 abbrev pub placed_cell : ℕ → List Cell → ℕ → ℕ → Placed

@@ -64,7 +64,7 @@ exported_label modules name = option_and_then (λ k. label modules k name) (firs
 abbrev pub meaning : List Parts → ℕ → List ℕ → Option Target
 meaning modules m name = option_or (label modules m name) (exported_label modules name)
 
--- the same, of a name that stands for something
+-- the same as a target; of a name that stands for nothing it says nothing
 abbrev pub told : (List ℕ → Option Target) → List ℕ → Target
 told found name = unwrap_or (found name) (record { kind = kind.Code; place = 0 })
 
