@@ -1,3 +1,11 @@
 pub mod FlatLines
 pub mod FlatLoop
 pub mod FlatLaws
+pub mod ArgumentLaws
+pub mod WordLaws
+pub mod Gathering
+pub mod Counting
+pub mod ReadLoop
+pub mod Suiting
+pub mod Lines
+pub mod SourceLaws

@@ -1,3 +1,12 @@
 pub mod FlatSources
 pub mod FlatReading
 pub mod Instructions
+pub mod Directives
+pub mod Forms
+pub mod Labels
+pub mod Said
+pub mod Numbered
+pub mod Sources
+pub mod Assembling
+pub mod SourceFaults
+pub mod Inner

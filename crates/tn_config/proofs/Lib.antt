@@ -9,3 +9,9 @@ pub mod ConfigLaws
 pub mod ReadLoop
 pub mod Described
 pub mod Words
+pub mod TextLaws
+pub mod NumberLaws
+pub mod Fits
+pub mod Admitted
+pub mod ReadBack
+pub mod WriterLaws

@@ -8,3 +8,5 @@ pub mod ConfigFaults
 pub mod ConfigReading
 pub mod Inner
 pub mod Networks
+pub mod Spellings
+pub mod Writable

@@ -9,7 +9,9 @@ mod networks;
 mod places;
 mod readers;
 mod statements;
+mod writers;
 
 pub use configurations::{Block, BlockLines, Config, HostLine, WireLine};
 pub use networks::raw_network;
 pub use readers::read_config;
+pub use writers::write_config;

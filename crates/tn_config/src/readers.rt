@@ -1,9 +1,13 @@
-ghost use Rattle.std.specs.Prelude.{◌≡◌, ℕ, ◌+◌, ◌-◌, ◌<◌, ◌^◌, All, IsTrue, List, length, map, Ok, Err, IfOk};
+ghost use Rattle.std.specs.Prelude.{◌≡◌, ℕ, ◌+◌, ◌-◌, ◌<◌, ◌≤◌, ◌^◌, All, IsTrue, List, length, map, Ok, Err, IfOk};
 ghost use Rattle.std.specs.Result.{result_map_both};
 ghost use Rattle.tn_text.specs.Lines.{is_ascii_line};
+ghost use Rattle.tn_text.specs.declared.limits.TheConstants.{PROCESSOR_LIMIT};
 ghost use Rattle.tn_text.specs.declared.faults.ReadFault.TheVariants as read;
 ghost use Rattle.tn_text.specs.Reading.{Gives, IsReading, placed};
+ghost use Rattle.tn_net.specs.Lines.{IsAdmitted};
 ghost use Rattle.tn_config.specs.Configurations.{ConfigState, config_of};
+ghost use Rattle.tn_config.specs.Networks.{described};
+ghost use Rattle.tn_config.specs.Writable.{IsWritable};
 ghost use Rattle.tn_config.specs.Parts.{IsConfig};
 ghost use Rattle.tn_config.specs.ConfigFaults.{may_stand, IsConfigFault};
 ghost use Rattle.tn_config.specs.ConfigReading.{set_in, end_in, take, words_said, counted, config_line, finish, config_read, nothing_read};
@@ -53,6 +57,10 @@ pub fn read_config(alloc: Global, text: &[u8]) -> Result<Config, ReadFault>
     ensures found { IfOk result (λ found. IsConfig text.now (config_of found)) }
     ensures only { (c : ConfigState) → IsConfig text.now c → Gives config_of result (Ok c) }
     ensures fault { (fault : _) → result ≡ Err (read.Fault fault) → IsConfigFault text.now fault }
+
+    // And what was read may be written, and its network checked:
+    ensures writable { IfOk result (λ found. IsWritable (config_of found)) }
+    ensures admitted { IfOk result (λ found. length found.blocks.items ≤ PROCESSOR_LIMIT → IsAdmitted (described (config_of found))) }
 {
     read_all(alloc, text)
 }

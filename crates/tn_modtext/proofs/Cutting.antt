@@ -1,17 +1,18 @@
 -- A text by its first line.
-use Rattle.std.proofs.Common.{◌≡◌, ℕ, ◌+◌, ◌<◌, ◌≤◌, Bool, true, false, cond, not, List, [], ◌∷◌, ◌++◌, length, map, take, drop, Some, None, refl, sym, ap}
-use Rattle.std.proofs.Common.{◌∙◌, arith, append_assoc, ◌&&◌}
+use Rattle.std.proofs.Common.{◌≡◌, ℕ, ◌+◌, ◌<◌, Bool, true, false, cond, not, List, [], ◌∷◌, length, take, drop, Some, None, refl, ap}
+use Rattle.std.proofs.Common.{◌∙◌, arith}
 use Rattle.std.specs.Bool.{◌==◌}
-use Rattle.std.specs.List.{All, list_all, onto_first, slice_split, position, position_or_len, before_first, after_first, flat_map, join_with_byte}
-use Rattle.std.proofs.lemmas.List.Splits.{slice_split_first, slice_split_none, slice_split_at, join_with_byte-slice_split}
+use Rattle.std.specs.List.{All, onto_first, slice_split, position, position_or_len, before_first, after_first}
+use Rattle.std.proofs.lemmas.List.Splits.{slice_split_first, slice_split_none}
 use Rattle.std.proofs.lemmas.List.Sums.{fails_before_first}
 use Rattle.std.proofs.lemmas.Bool.Decides.{nat_tests}
-use Rattle.tn_text.specs.Lines.{is_feed, is_nonempty}
+use Rattle.tn_text.specs.Lines.{is_feed}
 use Rattle.tn_text.proofs.Cutting.{found_at, found_none}
 use Rattle.tn_modtext.specs.Pieces.{pieces_of_parts, pieces}
 
 -- a part at least stands behind a line feed
-more_parts : (line text : List ℕ) → pieces_of_parts (line ∷ slice_split is_feed text) ≡ (line, true) ∷ pieces_of_parts (slice_split is_feed text)
+more_parts : (line text : List ℕ)
+    → pieces_of_parts (line ∷ slice_split is_feed text) ≡ (line, true) ∷ pieces_of_parts (slice_split is_feed text)
 more_parts line [] = refl
 more_parts line (c ∷ cs) = at (is_feed c) (slice_split is_feed cs)
   where
@@ -20,7 +21,8 @@ more_parts line (c ∷ cs) = at (is_feed c) (slice_split is_feed cs)
     onto (part ∷ parts) = refl
 
     at : (b : Bool) (parts : List (List ℕ))
-        → pieces_of_parts (line ∷ cond b ([] ∷ parts) (onto_first c parts)) ≡ (line, true) ∷ pieces_of_parts (cond b ([] ∷ parts) (onto_first c parts))
+        → pieces_of_parts (line ∷ cond b ([] ∷ parts) (onto_first c parts))
+        ≡ (line, true) ∷ pieces_of_parts (cond b ([] ∷ parts) (onto_first c parts))
     at true parts = refl
     at false parts = onto parts
 

@@ -1,5 +1,5 @@
 -- What was read so far are the lines that were read, and the lines of a module lead to it.
-use Rattle.std.proofs.Common.{◌≡◌, ℕ, suc, ◌+◌, Bool, true, false, cond, List, [], ◌∷◌, ◌++◌, length, map, Option, Some, None, Result, Ok, Err, refl, sym}
+use Rattle.std.proofs.Common.{◌≡◌, ℕ, Bool, true, false, List, [], ◌∷◌, ◌++◌, map, Option, Some, None, Ok, Err, refl, sym}
 use Rattle.std.proofs.Common.{ap, ◌∙◌, subst, append_assoc, append-nil}
 use Rattle.std.proofs.lemmas.List.{map-append}
 use Rattle.tn_text.specs.declared.faults.Cause.{Cause}
@@ -14,7 +14,7 @@ use Rattle.tn_modtext.specs.declared.lines.Line.TheVariants as line
 use Rattle.tn_modtext.specs.Forms.{stands, section_after}
 use Rattle.tn_modtext.specs.Lines.{line_form, lines_of}
 use Rattle.tn_modtext.specs.LineFaults.{is_end, lacks_end}
-use Rattle.tn_modtext.specs.Inner.Drafts.{Drawn, blank, with_line, after, parts_with, whole_named, whole}
+use Rattle.tn_modtext.specs.Inner.Drafts.{Drawn, blank, after, parts_with, whole_named, whole}
 
 -- ---- the lines so far
 
@@ -147,7 +147,7 @@ grows s d l h f = absurd cc
 
 -- ---- the end
 
-at_end : (s : Section) → is_end s ≡ true → s ≡ section.End
+pub at_end : (s : Section) → is_end s ≡ true → s ≡ section.End
 at_end section.Head e = absurd cc
 at_end section.Name e = absurd cc
 at_end section.Imports e = absurd cc
@@ -155,6 +155,10 @@ at_end section.Exports e = absurd cc
 at_end section.Items e = absurd cc
 at_end section.Cells e = absurd cc
 at_end section.End e = refl
+
+-- a draft with a name that is at its end is whole
+pub whole-at_end : (d : Drawn) (name : List ℕ) → d.name ≡ Some name → is_end d.section ≡ true → whole d ≡ Ok (parts_with d name)
+whole-at_end d name named ended = rw (named, ended) refl
 
 pub record IsWhole (d : Drawn) (m : Parts) : Type 0 where
   pub ended : d.section ≡ section.End

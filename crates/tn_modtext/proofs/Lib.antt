@@ -8,9 +8,13 @@ pub mod LineLaws
 pub mod SplitLaws
 pub mod WordLaws
 pub mod DraftLaws
+pub mod SectionLaws
 pub mod ReadLaws
+pub mod LibraryReadLaws
 pub mod PieceLoops
+pub mod CheckLaws
 pub mod ModuleLaws
+pub mod LibraryLaws
 pub mod WritingLaws
 pub mod FirstFaults
 pub mod ModuleReading

@@ -1,17 +1,14 @@
 -- The lines of a module text are what their tokens spell.
-use Rattle.std.proofs.Common.{◌≡◌, ℕ, ◌^◌, ◌<◌, ◌≤◌, Bool, true, false, ◌&&◌, List, [], ◌∷◌, Option, Some, None, Contains, IfSome, Result, Ok, Err, refl}
+use Rattle.std.proofs.Common.{◌≡◌, ℕ, ◌≤◌, Bool, true, false, ◌&&◌, List, [], ◌∷◌, Option, Some, None, Contains, IfSome, Result, Ok, refl}
 use Rattle.std.proofs.Common.{sym, ap, ◌∙◌, subst, arith}
 use Rattle.std.specs.List.{find}
 use Rattle.std.specs.Str.{bytes_eq}
 use Rattle.std.specs.Fmt.{decimal}
 use Rattle.std.proofs.lemmas.Slice.Eq.{bytes_eq-Decides}
 use Rattle.tn_isa.proofs.Finding.{found-find}
-use Rattle.tn_isa.specs.declared.functions.Fun.{Fun}
-use Rattle.tn_isa.specs.Mnemonics.{function_name, operation_name, mnemonic_named}
+use Rattle.tn_isa.specs.Mnemonics.{mnemonic_named}
 use Rattle.tn_text.specs.declared.faults.Cause.{Cause}
-use Rattle.tn_text.specs.declared.faults.FaultCode.TheVariants.{BadLine}
 use Rattle.tn_text.specs.declared.limits.TheConstants.{NAME_LIMIT}
-use Rattle.tn_text.specs.Faults.{bare}
 use Rattle.tn_text.specs.Places.{name_at}
 use Rattle.tn_text.specs.Reading.{result_then}
 use Rattle.tn_module.specs.declared.modules.Item.{Item}
@@ -30,12 +27,12 @@ use Rattle.tn_modtext.specs.declared.forms.CellForm.TheVariants as cell_forms
 use Rattle.tn_modtext.specs.declared.lines.Line.{Line}
 use Rattle.tn_modtext.specs.declared.lines.Line.TheVariants as line
 use Rattle.tn_modtext.specs.Forms.{form_word, stands, forms, form_at}
-use Rattle.tn_modtext.specs.Lines.{item_form, item_args, cell_form, cell_args, line_form, line_args, kind_word, operand_text, IsSpelledItem}
+use Rattle.tn_modtext.specs.Lines.{item_form, item_args, cell_form, cell_args, line_form, line_args, operand_text, IsSpelledItem}
 use Rattle.tn_modtext.specs.Lines.{IsSpelled, line_words}
 use Rattle.tn_modtext.specs.Numerals.{natural_at}
 use Rattle.tn_modtext.specs.Operands.{operand_at}
 use Rattle.tn_modtext.specs.Tokens.{version_at, kind_at, function_of, operation_of}
-use Rattle.tn_modtext.specs.LinesAt.{no_token, one_token, two_tokens, named, counted, import_said, direct_said, item_said, cell_said}
+use Rattle.tn_modtext.specs.LinesAt.{no_token, one_token, two_tokens, named, counted, direct_said, item_said, cell_said}
 use Rattle.tn_modtext.specs.LinesAt.{line_said, said_by, line_at}
 use Rattle.tn_modtext.proofs.Results.{then-ok}
 use Rattle.tn_modtext.proofs.NumeralLaws.{natural-found, natural-only}
@@ -71,7 +68,8 @@ module _ {A : Type 0} (P : List (List ℕ) → A → Type 0) (args : List (List 
       at (t ∷ u ∷ []) e = p t u e
       at (t ∷ u ∷ v ∷ ts) e = absurd cc
 
-  said-named : (put : List ℕ → A) → ((name : List ℕ) → IsName name → P (name ∷ []) (put name)) → one_token args (named put) ≡ Ok a → P args a
+  said-named : (put : List ℕ → A) → ((name : List ℕ) → IsName name → P (name ∷ []) (put name))
+      → one_token args (named put) ≡ Ok a → P args a
   said-named put p e = said-one (named put) at e
     where
       at : (t : List ℕ) → named put t ≡ Ok a → P (t ∷ []) a

@@ -1,6 +1,7 @@
 -- A text is that of the valid module that its lines spell, or has one first fault.
-use Rattle.std.proofs.Common.{◌≡◌, ℕ, suc, ◌+◌, ◌^◌, ◌<◌, ◌≤◌, ◌⊎◌, inl, inr, Bool, true, false, not, List, [], ◌∷◌, ◌++◌, length, map, get_or, Option, Some, None, All}
-use Rattle.std.proofs.Common.{Result, Ok, Err, IfOk, refl, sym, ap, ◌∙◌, subst, arith, length-append}
+use Rattle.std.proofs.Common.{◌≡◌, ℕ, ◌+◌, ◌^◌, ◌<◌, ◌≤◌, ◌⊎◌, inl, inr, true, List, [], ◌∷◌, ◌++◌, length, map, get_or, Option, Some}
+use Rattle.std.proofs.Common.{None, All}
+use Rattle.std.proofs.Common.{Result, Ok, Err, refl, sym, ap, ◌∙◌, arith, length-append}
 use Rattle.std.specs.List.{flat_map, slice_get}
 use Rattle.std.specs.Prelude.{option_and_then}
 use Rattle.std.proofs.lemmas.List.{length-map}
@@ -13,7 +14,6 @@ use Rattle.tn_text.specs.declared.faults.Cause.{Cause}
 use Rattle.tn_text.specs.declared.faults.ReadFault.{ReadFault}
 use Rattle.tn_text.specs.declared.faults.ReadFault.TheVariants as read
 use Rattle.tn_text.specs.Reading.{Gives}
-use Rattle.tn_text.proofs.Results.{ok-ok, ok-err}
 use Rattle.tn_module.specs.declared.faults.Place.{Place}
 use Rattle.tn_module.specs.declared.faults.Place.TheVariants as place
 use Rattle.tn_module.specs.declared.faults.ModuleFault.{ModuleFault}
@@ -32,10 +32,11 @@ use Rattle.tn_modtext.specs.declared.lines.Line.{Line}
 use Rattle.tn_modtext.specs.declared.lines.Line.TheVariants as line
 use Rattle.tn_modtext.specs.Lines.{line_text, line_spelling, lines_of, spelling, HasMnemonic, IsSpelledItem, IsSpelled, HasSpelling}
 use Rattle.tn_modtext.specs.LineFaults.{IsLineFault}
-use Rattle.tn_modtext.specs.ModuleTexts.{line_in, fault_in, IsModuleText, IsFaultOfModule, IsModuleTextFault, IsChecked}
+use Rattle.tn_modtext.specs.ModuleTexts.{line_in, fault_in, IsModuleText, IsModuleTextFault, IsChecked}
 use Rattle.tn_modtext.specs.Readers.{Reads}
 use Rattle.tn_modtext.specs.Inner.Drafts.{parts_read}
 use Rattle.tn_modtext.proofs.ReadLaws.{parts_reading}
+use Rattle.tn_modtext.proofs.CheckLaws.{Checked, checked-reads, stopped-reads}
 
 -- ---- a valid module has a spelling
 
@@ -80,7 +81,8 @@ spelled-valid m v r =
     (All-cons IsSpelled (line.Name m.name) [] r.name (All-nil IsSpelled)) in
     let imports = All-append IsSpelled (line.Head ∷ line.Name m.name ∷ []) (map line.Import m.imports) head
     (All-map IsSpelled line.Import m.imports r.imports) in
-    let exports = All-append IsSpelled ((line.Head ∷ line.Name m.name ∷ []) ++ map line.Import m.imports) (map line.Export m.exports) imports
+    let exports = All-append IsSpelled ((line.Head ∷ line.Name m.name ∷ []) ++ map line.Import m.imports)
+    (map line.Export m.exports) imports
     (All-map IsSpelled line.Export m.exports r.exports) in
     let front : List Line = ((line.Head ∷ line.Name m.name ∷ []) ++ map line.Import m.imports) ++ map line.Export m.exports in
     let code = All-append IsSpelled front (line.Code ∷ []) exports (All-cons IsSpelled line.Code [] tt (All-nil IsSpelled)) in
@@ -88,7 +90,8 @@ spelled-valid m v r =
     let items = All-append IsSpelled (front ++ line.Code ∷ []) (map line.Item m.items) code (All-map IsSpelled line.Item m.items each) in
     let middle : List Line = (front ++ line.Code ∷ []) ++ map line.Item m.items in
     let data_at = All-append IsSpelled middle (line.Data ∷ []) items (All-cons IsSpelled line.Data [] tt (All-nil IsSpelled)) in
-    let cells = All-append IsSpelled (middle ++ line.Data ∷ []) (map line.Cell m.cells) data_at (All-map IsSpelled line.Cell m.cells r.cells) in
+    let cells = All-append IsSpelled (middle ++ line.Data ∷ []) (map line.Cell m.cells) data_at
+    (All-map IsSpelled line.Cell m.cells r.cells) in
     All-append IsSpelled ((middle ++ line.Data ∷ []) ++ map line.Cell m.cells) (line.End ∷ []) cells
     (All-cons IsSpelled line.End [] tt (All-nil IsSpelled))
 
@@ -98,7 +101,7 @@ pub length-lines : (m : Parts) → length (lines_of m) ≡ 5 + length m.imports 
 unfolding lines_of
 length-lines m = simp (length-append, length-map) (omega arith)
 
-lines_below : (ls : List Line) → length ls ≤ length (flat_map line_spelling ls)
+pub lines_below : (ls : List Line) → length ls ≤ length (flat_map line_spelling ls)
 lines_below [] = omega arith
 lines_below (l ∷ ls) =
     omega (
@@ -146,87 +149,59 @@ place-within m (place.Cell i) cause e = let within = wrong_within m.cells i _ ca
 
 -- ---- what a check of the parts makes of the text
 
-abbrev pub failed : ReadFault → Result Parts ReadFault
-failed why = Err why
+abbrev IsWrongModule : Parts → Fault → Type 0
+IsWrongModule m fault = (f : ModuleFault) × IsFirstFault m f × (fault ≡ fault_in 0 m f)
+
+one_wrong : (m : Parts) (fault other : Fault) → IsWrongModule m fault → IsWrongModule m other → fault ≡ other
+one_wrong m fault other (f, first, placed) (g, first_g, placed_g) =
+    placed ∙ (ap (fault_in 0 m) (one_first_fault m f g first first_g) ∙ sym placed_g)
 
 module _ (text : List ℕ) where
-  only_parts : (m n : Parts) → parts_read text ≡ Ok m → IsModuleText text n → n ≡ m
-  only_parts m n e is =
-      ok-ok (parts_read text) n m
-      ((parts_reading text).only n (spelled-valid n is.valid is.ranges, is.spelled)) e
+  abbrev IsSpelledText : Parts → Type 0
+  IsSpelledText m = HasSpelling m × (text ≡ spelling m)
+
+  fault_of : (fault : Fault) → IsModuleTextFault text fault
+      → IsLineFault text fault ⊎ ((m : Parts) × IsSpelledText m × IsWrongModule m fault)
+  fault_of fault (inl f) = inl f
+  fault_of fault (inr f) = inr (f.parts, (f.has_spelling, f.spelled), (f.found, f.first, f.placed))
+
+  of_fault : (fault : Fault) → IsLineFault text fault ⊎ ((m : Parts) × IsSpelledText m × IsWrongModule m fault)
+      → IsModuleTextFault text fault
+  of_fault fault (inl f) = inl f
+  of_fault fault (inr (m, spelled, wrong)) =
+      inr (record {
+        parts = m;
+        found = wrong.0;
+        has_spelling = spelled.0;
+        spelled = spelled.1;
+        first = wrong.1;
+        placed = wrong.2;
+      })
+
+  spells : (m : Parts) → IsModuleText text m → IsSpelledText m
+  spells m is = (spelled-valid m is.valid is.ranges, is.spelled)
+
+  fits : (m : Parts) (fault : Fault) → IsModuleText text m → IsWrongModule m fault → ⊥
+  fits m fault is (f, first, placed) = invalid_at_fault m f first is.valid
 
   -- the parts were read, and checked
   pub module-read : (m : Parts) (result : Result Parts ReadFault) → parts_read text ≡ Ok m → IsChecked 0 m result
       → Reads (IsModuleText text) (IsModuleTextFault text) result
-  module-read m (Ok n) e (same, valid, ranges) =
-      let found = (parts_reading text).found m e in
-      record {
-        found = subst (IsModuleText text) (sym same) (record { valid = valid; ranges = ranges; spelled = found.1 });
-        only = λ value is. ap Ok (same ∙ sym (only_parts m value e is));
-        fault = λ fault q. absurd cc;
-        refused = λ fault f. absurd (no_fault fault f);
-      }
+  module-read m result e c =
+      checked-reads IsSpelledText (IsModuleText text) (IsLineFault text) IsWrongModule (parts_read text) (parts_reading text) spells fits
+      one_wrong (IsModuleTextFault text) fault_of of_fault m result e (at result c)
     where
-      no_fault : (fault : Fault) → IsModuleTextFault text fault → ⊥
-      no_fault fault (inl f) = ok-err (parts_read text) m fault e ((parts_reading text).refused fault f)
-      no_fault fault (inr f) =
-          let same = ok-ok (parts_read text) f.parts m ((parts_reading text).only f.parts (f.has_spelling, f.spelled)) e in
-          invalid_at_fault f.parts f.found f.first (subst IsValid (sym same) valid)
-  module-read m (Err (read.Fault why)) e (f, first, placed, invalid) =
-      let found = (parts_reading text).found m e in
-      record {
-        found = tt;
-        only = λ value is. absurd (invalid (subst IsValid (only_parts m value e is) is.valid));
-        fault = λ fault q. inr (record {
-          parts = m;
-          found = f;
-          has_spelling = found.0;
-          spelled = found.1;
-          first = first;
-          placed = told fault q;
-        });
-        refused = one_fault;
-      }
-    where
-      told : (fault : Fault) → failed (read.Fault why) ≡ failed (read.Fault fault) → fault ≡ fault_in 0 m f
-      told fault q = let same : why ≡ fault = cc in sym same ∙ placed
-
-      one_fault : (fault : Fault) → IsModuleTextFault text fault → Gives (λ v. v) (failed (read.Fault why)) (Err fault)
-      one_fault fault (inl g) = ok-err (parts_read text) m fault e ((parts_reading text).refused fault g)
-      one_fault fault (inr g) =
-          let same : g.parts ≡ m = ok-ok (parts_read text) g.parts m ((parts_reading text).only g.parts (g.has_spelling, g.spelled)) e in
-          let first_m : IsFirstFault m g.found = subst (λ n. IsFirstFault n g.found) same g.first in
-          let one = one_first_fault m f g.found first first_m in
-          let at_m : fault ≡ fault_in 0 m g.found = g.placed ∙ ap (λ n. fault_in 0 n g.found) same in
-          ap Err (placed ∙ (ap (fault_in 0 m) one ∙ sym at_m))
-  module-read m (Err read.NoMemory) e c =
-      record { found = tt; only = λ value is. tt; fault = λ fault q. absurd cc; refused = λ fault f. tt }
+      at : (result : Result Parts ReadFault) → IsChecked 0 m result
+          → Checked IsSpelledText (IsModuleText text) (IsLineFault text) IsWrongModule (parts_read text) (parts_reading text) spells fits
+          one_wrong (IsModuleTextFault text) fault_of of_fault m result
+      at (Ok n) (same, valid, ranges) =
+          (same, record { valid = valid; ranges = ranges; spelled = ((parts_reading text).found m e).1 })
+      at (Err (read.Fault why)) (f, first, placed, invalid) = (f, first, placed)
+      at (Err read.NoMemory) c = tt
 
   -- a line was refused, or there was no memory
-  pub module-stopped : (why : ReadFault) → Gives (λ v. v) (failed why) (parts_read text)
+  pub module-stopped : (why : ReadFault) → Gives {T = Parts} (λ v. v) (Err why) (parts_read text)
       → Reads (IsModuleText text) (IsModuleTextFault text) (Err why)
-  module-stopped (read.Fault told) g =
-      record {
-        found = tt;
-        only = λ value is. ok-err (parts_read text) value told
-            ((parts_reading text).only value (spelled-valid value is.valid is.ranges, is.spelled)) (sym g);
-        fault = λ fault q. inl ((parts_reading text).fault fault (sym g ∙ ap Err (same fault q)));
-        refused = other;
-      }
-    where
-      same : (fault : Fault) → failed (read.Fault told) ≡ failed (read.Fault fault) → told ≡ fault
-      same fault q = cc
-
-      other : (fault : Fault) → IsModuleTextFault text fault → Gives (λ v. v) (failed (read.Fault told)) (Err fault)
-      other fault (inl f) =
-          let read : parts_read text ≡ Err fault = (parts_reading text).refused fault f in
-          let both : told ≡ fault = cc in ap Err both
-      other fault (inr f) = ok-err (parts_read text) f.parts told ((parts_reading text).only f.parts (f.has_spelling, f.spelled)) (sym g)
-  module-stopped read.NoMemory g =
-      record { found = tt; only = λ value is. tt; fault = λ fault q. absurd cc; refused = λ fault f. tt }
-
--- what was not given as parts was not given
-pub stopped-given : {T : Type 0} (seen : T → Parts) (text : List ℕ) (why : ReadFault) → Gives seen (Err why) (parts_read text)
-    → Gives (λ v. v) (failed why) (parts_read text)
-stopped-given seen text (read.Fault told) g = g
-stopped-given seen text read.NoMemory g = tt
+  module-stopped =
+      stopped-reads IsSpelledText (IsModuleText text) (IsLineFault text) IsWrongModule (parts_read text) (parts_reading text) spells fits
+      one_wrong (IsModuleTextFault text) fault_of of_fault

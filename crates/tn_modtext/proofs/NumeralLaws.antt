@@ -1,5 +1,5 @@
 -- The numbers of a module text are what their tokens spell.
-use Rattle.std.proofs.Common.{◌≡◌, ℕ, suc, zero, ◌+◌, ◌*◌, ◌^◌, ◌<◌, ◌≤◌, ℤ, pos, negsuc, neg_ℤ, Bool, true, false, ◌&&◌, cond, List, [], ◌∷◌, length}
+use Rattle.std.proofs.Common.{◌≡◌, ℕ, suc, zero, ◌^◌, ◌<◌, ◌≤◌, ℤ, pos, negsuc, neg_ℤ, Bool, true, false, ◌&&◌, cond, List, [], ◌∷◌, length}
 use Rattle.std.proofs.Common.{get_or, Option, Some, None, Result, Ok, Err, refl, sym, ap, ◌∙◌, subst, arith, ltb, leb, le-leb, lt-ltb}
 use Rattle.std.specs.Prelude.{FitsSigned}
 use Rattle.std.specs.Bool.{◌==◌}
@@ -10,14 +10,14 @@ use Rattle.std.specs.Int.{w32}
 use Rattle.std.specs.Str.Parse.{AllDigits, digits_value}
 use Rattle.std.proofs.lemmas.Bool.Decides.{nat_tests}
 use Rattle.std.proofs.lemmas.Bool.{ltb-true, leb-true}
-use Rattle.std.proofs.lemmas.Fmt.{decimal_digit, decimal_is_IsNumeral, length-decimal-le, first_decimal, decimal-digits_value}
+use Rattle.std.proofs.lemmas.Fmt.{decimal_digit, decimal_is_IsNumeral, first_decimal, decimal-digits_value}
 use Rattle.std.proofs.lemmas.Str.Parse.{IsNumeralModel, numerals_by_value, tells_digits}
 use Rattle.tn_text.specs.declared.faults.Cause.{Cause}
 use Rattle.tn_text.specs.declared.faults.FaultCode.TheVariants.{BadNumber}
 use Rattle.tn_text.specs.Faults.{bare}
 use Rattle.tn_text.specs.Numbers.{natural_of}
 use Rattle.tn_text.proofs.Digits.{all_digits, few_digits}
-use Rattle.tn_text.proofs.Naturals.{natural-only as digits-read}
+use Rattle.tn_text.proofs.Naturals.{natural-only as decimal-only}
 use Rattle.tn_modtext.specs.Numerals.{has_leading_zero, plain_natural, up_to, natural_at, negative_at, positive_at, signed_at}
 
 -- digits, as std's lemmas speak of them
@@ -86,7 +86,7 @@ no_zero (suc n) small = at (decimal (suc n)) (first_decimal (suc n) (omega arith
 
 plain-only : (n : ℕ) → n < 10 ^ 10 → plain_natural (decimal n) ≡ Some n
 unfolding plain_natural
-plain-only n small = rw (no_zero n (omega arith), digits-read n small) refl
+plain-only n small = rw (no_zero n (omega arith), decimal-only n small) refl
 
 -- ---- numbers up to a limit
 
@@ -123,7 +123,8 @@ minus_fits zero h k = absurd (omega arith)
 minus_fits (suc n) h k = record { sfits = omega arith }
 
 module _ (t : List ℕ) (v : ℤ) where
-  negative-found : (ds : List ℕ) (o : Option ℕ) → plain_natural ds ≡ o → negative_at o ≡ Ok v → (signed_decimal v ≡ 45 ∷ ds) × FitsSigned w32 v
+  negative-found : (ds : List ℕ) (o : Option ℕ) → plain_natural ds ≡ o → negative_at o ≡ Ok v
+      → (signed_decimal v ≡ 45 ∷ ds) × FitsSigned w32 v
   negative-found ds None is q = absurd cc
   negative-found ds (Some n) is q = by (leb 1 n && leb n (2 ^ 31)) refl q
     where

@@ -1,14 +1,13 @@
 -- The operands of a module text are what their tokens spell.
-use Rattle.std.proofs.Common.{◌≡◌, ℕ, suc, ◌+◌, ◌^◌, ◌<◌, ◌≤◌, ℤ, pos, negsuc, Bool, true, false, ◌&&◌, ◌||◌, cond, List, [], ◌∷◌, ◌++◌, length, take, drop, get_or}
-use Rattle.std.proofs.Common.{Option, Some, None, Result, Ok, Err, refl, sym, ap, ◌∙◌, subst, arith, ltb, lt-ltb, length-append, append_assoc}
+use Rattle.std.proofs.Common.{◌≡◌, ℕ, suc, ◌+◌, ◌^◌, ◌<◌, ◌≤◌, ℤ, pos, negsuc, Bool, true, false, ◌&&◌, cond, List, [], ◌∷◌, ◌++◌, length}
+use Rattle.std.proofs.Common.{take, drop, get_or}
+use Rattle.std.proofs.Common.{Option, Some, None, Result, Ok, Err, refl, sym, ap, ◌∙◌, subst, arith, lt-ltb, length-append}
 use Rattle.std.specs.Bool.{◌==◌}
 use Rattle.std.specs.Prelude.{nat_le}
-use Rattle.std.specs.List.{All, list_all, position, position_or_len}
-use Rattle.std.specs.Char.{is_ascii_digit, digit_value}
+use Rattle.std.specs.List.{list_all, position, position_or_len}
 use Rattle.std.specs.Fmt.{decimal, signed_decimal}
 use Rattle.std.specs.Str.Parse.{AllDigits}
-use Rattle.std.proofs.Math.Seq.{split_at, take-append_seam, drop-append_seam, get_or-append_seam}
-use Rattle.std.proofs.lemmas.Bool.{ltb-false, ltb-true}
+use Rattle.std.proofs.Math.Seq.{split_at, take-append_seam, get_or-append_seam}
 use Rattle.std.proofs.lemmas.Bool.Decides.{nat_tests}
 use Rattle.std.proofs.lemmas.Fmt.{decimal_is_IsNumeral}
 use Rattle.std.proofs.lemmas.List.{get_or_append_left}
@@ -29,7 +28,7 @@ use Rattle.tn_module.specs.Ranges.{IsName, IsOperand}
 use Rattle.tn_modtext.specs.Lines.{operand_text}
 use Rattle.tn_modtext.specs.Numerals.{signed_at}
 use Rattle.tn_modtext.specs.Operands.{is_minus, difference_at, cut_operand, named_operand_at, operand_at}
-use Rattle.tn_modtext.proofs.Results.{then-ok, then-of}
+use Rattle.tn_modtext.proofs.Results.{then-ok}
 use Rattle.tn_modtext.proofs.NumeralLaws.{signed-found, signed-only}
 use Rattle.tn_modtext.proofs.TokenLaws.{name-found, name-only}
 

@@ -1,31 +1,31 @@
 -- Reading the lines of a text gives the module that they spell, or the fault of the first line that
 -- may not stand at its place.
-use Rattle.std.proofs.Common.{◌≡◌, ℕ, suc, ◌+◌, ◌⊎◌, inl, inr, Bool, true, false, cond, ◌&&◌, List, [], ◌∷◌, ◌++◌, length, map, Option, Some, None}
+use Rattle.std.proofs.Common.{◌≡◌, ℕ, ◌+◌, Bool, true, false, cond, List, [], ◌∷◌, ◌++◌, length, map}
 use Rattle.std.proofs.Common.{All, Result, Ok, Err, refl, sym, ap, ◌∙◌, subst, append_assoc, append-nil}
 use Rattle.std.specs.List.{list_all, flat_map, join_with_byte, AllByRecursion}
 use Rattle.std.proofs.lemmas.List.Elements.{All-nil, All-cons, recursion_from_All}
 use Rattle.tn_text.specs.declared.faults.Cause.{Cause}
 use Rattle.tn_text.specs.declared.faults.Fault.{Fault}
-use Rattle.tn_text.specs.Reading.{result_then, placed, read_lines, Walks, IsFirstBadLine, IsLacking, IsReading}
-use Rattle.tn_text.proofs.Results.{ok-err}
-use Rattle.tn_text.proofs.Walking.{walk_of, of_walk, first_fault, of_first_bad, of_lacking}
+use Rattle.tn_text.specs.Reading.{placed, read_lines, Walks, IsReading}
+use Rattle.tn_text.proofs.Walking.{walk_of, of_walk}
 use Rattle.tn_module.specs.Modules.{Parts}
 use Rattle.tn_modtext.specs.declared.forms.Section.{Section}
-use Rattle.tn_modtext.specs.declared.forms.Section.TheVariants as section
 use Rattle.tn_modtext.specs.declared.lines.Line.{Line}
 use Rattle.tn_modtext.specs.Forms.{form_word, stands, section_after}
-use Rattle.tn_modtext.specs.Lines.{line_form, line_args, line_words, line_text, line_spelling, ended, lines_of, spelling, IsSpelled, HasSpelling}
+use Rattle.tn_modtext.specs.Lines.{line_form, line_args, line_words, line_text, line_spelling, ended, lines_of, spelling, IsSpelled}
+use Rattle.tn_modtext.specs.Lines.{HasSpelling}
 use Rattle.tn_modtext.specs.Pieces.{pieces, is_strict_byte, strict_tokens}
 use Rattle.tn_modtext.specs.LinesAt.{line_at}
-use Rattle.tn_modtext.specs.LineFaults.{section_said, section_step, is_end, lacks_end, ends_at, IsLineFault}
+use Rattle.tn_modtext.specs.LineFaults.{section_step, is_end, lacks_end, ends_at, IsLineFault}
 use Rattle.tn_modtext.specs.Inner.Drafts.{Drawn, blank, after, whole, draft_said, draft_step, parts_read}
-use Rattle.tn_modtext.proofs.SplitLaws.{both, is_token, HasTokens, tokens-only, tokens-found, put_together, pieces-together, together-ended, pieces-ended}
+use Rattle.tn_modtext.proofs.SplitLaws.{tokens-only, tokens-found, put_together, pieces-together, pieces-ended}
 use Rattle.tn_modtext.proofs.SplitLaws.{strict_words}
 use Rattle.tn_modtext.proofs.WordLaws.{words-tokens}
 use Rattle.tn_modtext.proofs.LineLaws.{IsLineAt, line-found, line-only}
-use Rattle.tn_modtext.proofs.DraftLaws.{written, Fresh, fresh-blank, Grows, grows, IsWhole, whole-found, whole-lacks, whole-refused, Leads}
+use Rattle.tn_modtext.proofs.DraftLaws.{written, Fresh, fresh-blank, grows, whole-found, whole-lacks, whole-refused, Leads}
 use Rattle.tn_modtext.proofs.DraftLaws.{whole_draft, leads-module, whole-draft}
 use Rattle.tn_modtext.proofs.Results.{then-ok}
+use Rattle.tn_modtext.proofs.SectionLaws.{told-fault, kept-fault}
 
 -- the line with its line feed, as it is read
 abbrev piece_of : Line → List ℕ × Bool
@@ -102,7 +102,7 @@ texts_ended : (ls : List Line) → put_together (map piece_of ls) ≡ flat_map l
 texts_ended [] = refl
 texts_ended (l ∷ ls) = ap (λ rest. line_spelling l ++ rest) (texts_ended ls)
 
-lines_ended : (ls : List Line) → flat_map ended (map line_text ls) ≡ flat_map line_spelling ls
+pub lines_ended : (ls : List Line) → flat_map ended (map line_text ls) ≡ flat_map line_spelling ls
 lines_ended [] = refl
 lines_ended (l ∷ ls) = ap (λ rest. line_spelling l ++ rest) (lines_ended ls)
 
@@ -114,7 +114,7 @@ strict_text : (l : Line) → IsSpelled l → list_all is_strict_byte (line_text 
 unfolding line_text
 strict_text l h = strict_words (line_words l) (words-tokens l h)
 
-strict_texts : (ls : List Line) → AllByRecursion IsSpelled ls → list_all (list_all is_strict_byte) (map line_text ls) ≡ true
+pub strict_texts : (ls : List Line) → AllByRecursion IsSpelled ls → list_all (list_all is_strict_byte) (map line_text ls) ≡ true
 strict_texts [] h = refl
 strict_texts (l ∷ ls) (h, more) = rw (strict_text l h, strict_texts ls more) refl
 
@@ -146,65 +146,6 @@ parts-only text m (spelled, is) =
 
 -- ---- the section alone tells the fault
 
-section_ok : (d e : Drawn) (p : List ℕ × Bool) → draft_step d p ≡ Ok e → section_step d.section p ≡ Ok e.section
-unfolding section_step
-section_ok d e p q =
-    let tokens = then-ok (strict_tokens p) (draft_said d) e q in
-    let said = then-ok (line_at d.section tokens.0) (λ l. Ok (after d l)) e tokens.2 in
-    let same : after d said.0 ≡ e = cc in
-    rw (tokens.1, said.1) (ap (λ v. Ok v.section) same)
-
-section_err : (d : Drawn) (cause : Cause) (p : List ℕ × Bool) → draft_step d p ≡ Err cause → section_step d.section p ≡ Err cause
-unfolding section_step
-section_err d cause p q = at (strict_tokens p) q
-  where
-    by : (r : Result Line Cause) → result_then r (λ l. Ok (after d l)) ≡ Err cause
-        → result_then r (λ l. Ok (section_after (line_form l))) ≡ Err cause
-    by (Ok l) e = absurd cc
-    by (Err c) e = cc
-
-    at : (r : Result (List (List ℕ)) Cause) → result_then r (draft_said d) ≡ Err cause → result_then r (section_said d.section) ≡ Err cause
-    at (Ok words) e = by (line_at d.section words) e
-    at (Err c) e = cc
-
-draft_ok : (d : Drawn) (s : Section) (p : List ℕ × Bool) → section_step d.section p ≡ Ok s → (e : Drawn) × (draft_step d p ≡ Ok e) × (e.section ≡ s)
-unfolding section_step
-draft_ok d s p q =
-    let tokens = then-ok (strict_tokens p) (section_said d.section) s q in
-    let said = then-ok (line_at d.section tokens.0) (λ l. Ok (section_after (line_form l))) s tokens.2 in
-    let same : section_after (line_form said.0) ≡ s = cc in (
-      after d said.0,
-      ap (λ r. result_then r (draft_said d)) tokens.1 ∙ ap (λ r. result_then r (λ l. Ok (after d l))) said.1,
-      same,
-    )
-
-draft_err : (d : Drawn) (cause : Cause) (p : List ℕ × Bool) → section_step d.section p ≡ Err cause → draft_step d p ≡ Err cause
-unfolding section_step
-draft_err d cause p q = at (strict_tokens p) q
-  where
-    by : (r : Result Line Cause) → result_then r (λ l. Ok (section_after (line_form l))) ≡ Err cause
-        → result_then r (λ l. Ok (after d l)) ≡ Err cause
-    by (Ok l) e = absurd cc
-    by (Err c) e = cc
-
-    at : (r : Result (List (List ℕ)) Cause) → result_then r (section_said d.section) ≡ Err cause → result_then r (draft_said d) ≡ Err cause
-    at (Ok words) e = by (line_at d.section words) e
-    at (Err c) e = cc
-
-sections_walk : (ps : List (List ℕ × Bool)) (d e : Drawn) → Walks draft_step d ps e → Walks section_step d.section ps e.section
-unfolding Walks
-sections_walk [] d e w = ap (λ v. v.section) w
-sections_walk (p ∷ ps) d e (u, first, rest) = (u.section, section_ok d u p first, sections_walk ps u e rest)
-
-drafts_walk : (ps : List (List ℕ × Bool)) (d : Drawn) (s : Section) → Walks section_step d.section ps s
-    → (e : Drawn) × Walks draft_step d ps e × (e.section ≡ s)
-unfolding Walks
-drafts_walk [] d s w = (d, refl, w)
-drafts_walk (p ∷ ps) d s (t, first, rest) =
-    let step = draft_ok d t p first in
-    let more = drafts_walk ps step.0 s (subst (λ u. Walks section_step u ps s) (sym step.2) rest) in
-    (more.0, (step.0, step.1, more.1), more.2)
-
 ends_err : (s : Section) (cause : Cause) → ends_at s ≡ Err cause → (is_end s ≡ false) × (cause ≡ lacks_end)
 ends_err s cause e = at (is_end s) e
   where
@@ -213,56 +154,24 @@ ends_err s cause e = at (is_end s) e
     at false e = (refl, cc)
 
 parts-fault : (text : List ℕ) (fault : Fault) → parts_read text ≡ Err fault → IsLineFault text fault
-parts-fault text fault e = at (first_fault draft_step whole blank (pieces text) fault e)
+unfolding section_step
+parts-fault text =
+    told-fault (λ d. d.section) line_at after (λ l. section_after (line_form l)) (λ d l. refl) whole ends_at blank (pieces text) lacks
   where
-    at : IsFirstBadLine draft_step blank (pieces text) fault ⊎ IsLacking draft_step whole blank (pieces text) fault → IsLineFault text fault
-    at (inl h) =
-        inl (record {
-          before = h.before;
-          line = h.line;
-          after = h.after;
-          state = h.state.section;
-          cause = h.cause;
-          lines = h.lines;
-          walks = sections_walk h.before blank h.state h.walks;
-          refused = section_err h.state h.cause h.line h.refused;
-          placed = h.placed;
-        })
-    at (inr h) =
-        let walk = walked (pieces text) blank h.state fresh-blank h.walks in
-        let lacks = whole-refused h.state h.cause walk.fresh h.refused in
-        inr (record {
-          state = h.state.section;
-          cause = h.cause;
-          walks = sections_walk (pieces text) blank h.state h.walks;
-          refused = rw lacks.0 (ap Err (sym lacks.1));
-          placed = h.placed;
-        })
+    lacks : (d : Drawn) (cause : Cause) → Walks draft_step blank (pieces text) d → whole d ≡ Err cause → ends_at d.section ≡ Err cause
+    lacks d cause walks refused =
+        let found = whole-refused d cause (walked (pieces text) blank d fresh-blank walks).fresh refused in
+        rw found.0 (ap Err (sym found.1))
 
 parts-refused : (text : List ℕ) (fault : Fault) → IsLineFault text fault → parts_read text ≡ Err fault
-parts-refused text fault (inl h) =
-    let walk = drafts_walk h.before blank h.state h.walks in
-    of_first_bad draft_step whole blank (pieces text) fault (record {
-      before = h.before;
-      line = h.line;
-      after = h.after;
-      state = walk.0;
-      cause = h.cause;
-      lines = h.lines;
-      walks = walk.1;
-      refused = draft_err walk.0 h.cause h.line (ap (λ s. section_step s h.line) walk.2 ∙ h.refused);
-      placed = h.placed;
-    })
-parts-refused text fault (inr h) =
-    let walk = drafts_walk (pieces text) blank h.state h.walks in
-    let lacks = ends_err h.state h.cause h.refused in
-    of_lacking draft_step whole blank (pieces text) fault (record {
-      state = walk.0;
-      cause = h.cause;
-      walks = walk.1;
-      refused = whole-lacks walk.0 (ap is_end walk.2 ∙ lacks.0) ∙ ap Err (sym lacks.1);
-      placed = h.placed;
-    })
+unfolding section_step
+parts-refused text =
+    kept-fault (λ d. d.section) line_at after (λ l. section_after (line_form l)) (λ d l. refl) whole ends_at blank (pieces text) lacks
+  where
+    lacks : (d : Drawn) (cause : Cause) → ends_at d.section ≡ Err cause → whole d ≡ Err cause
+    lacks d cause refused =
+        let found = ends_err d.section cause refused in
+        whole-lacks d found.0 ∙ ap Err (sym found.1)
 
 -- reading the lines of a text gives the module that they spell, or the first fault of a line
 pub parts_reading : (text : List ℕ) → IsReading (λ m. HasSpelling m × (text ≡ spelling m)) (IsLineFault text) (parts_read text)

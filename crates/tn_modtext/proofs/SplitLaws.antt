@@ -1,6 +1,7 @@
 -- The lines of a text and the tokens of a line, put together and cut.
-use Rattle.std.proofs.Common.{◌≡◌, ℕ, ◌+◌, ◌<◌, ◌≤◌, Bool, true, false, ◌&&◌, cond, not, List, [], ◌∷◌, ◌++◌, length, map, get_or, Result, Ok, Err, refl, sym, ap}
-use Rattle.std.proofs.Common.{◌∙◌, subst, arith, append_assoc, append-nil}
+use Rattle.std.proofs.Common.{◌≡◌, ℕ, ◌<◌, Bool, true, false, ◌&&◌, cond, not, List, [], ◌∷◌, ◌++◌, length, map, get_or, Result, Ok, Err}
+use Rattle.std.proofs.Common.{refl, sym, ap}
+use Rattle.std.proofs.Common.{◌∙◌, arith, append_assoc, append-nil}
 use Rattle.std.specs.Bool.{◌==◌}
 use Rattle.std.specs.List.{All, list_all, slice_split, flat_map, join_with_byte}
 use Rattle.std.proofs.lemmas.Bool.Decides.{nat_tests}
@@ -17,7 +18,8 @@ pub both : (a b : Bool) → (a && b) ≡ true → (a ≡ true) × (b ≡ true)
 both true b h = (refl, h)
 both false b h = absurd cc
 
-pub list_all-append : {X : Type 0} (p : X → Bool) (xs ys : List X) → list_all p xs ≡ true → list_all p ys ≡ true → list_all p (xs ++ ys) ≡ true
+pub list_all-append : {X : Type 0} (p : X → Bool) (xs ys : List X) → list_all p xs ≡ true → list_all p ys ≡ true
+    → list_all p (xs ++ ys) ≡ true
 list_all-append p [] ys h k = k
 list_all-append p (x ∷ xs) ys h k =
     let parts = both (p x) (list_all p xs) h in rw (parts.0, list_all-append p xs ys parts.1 k) refl
@@ -147,7 +149,8 @@ strict_feed line h = λ k d k_lt. byte (get_or line k d) (AllPass-from_list_all 
     byte : (c : ℕ) → is_strict_byte c ≡ true → is_feed c ≡ false
     byte c e = grind (arith, nat_tests)
 
-parts_ended : (line : List ℕ) (parts : List (List ℕ)) → 0 < length parts → pieces_of_parts (line ∷ parts) ≡ (line, true) ∷ pieces_of_parts parts
+parts_ended : (line : List ℕ) (parts : List (List ℕ)) → 0 < length parts
+    → pieces_of_parts (line ∷ parts) ≡ (line, true) ∷ pieces_of_parts parts
 parts_ended line [] some = absurd (omega arith)
 parts_ended line (part ∷ parts) some = refl
 

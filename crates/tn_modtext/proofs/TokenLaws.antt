@@ -1,5 +1,6 @@
 -- Names and words of a module text are what their tokens spell.
-use Rattle.std.proofs.Common.{◌≡◌, ℕ, Bool, true, false, not, cond, List, [], ◌∷◌, Option, Some, None, All, Contains, IfSome, Result, Ok, Err, refl, sym, ap, ◌∙◌, subst, arith}
+use Rattle.std.proofs.Common.{◌≡◌, ℕ, Bool, true, false, not, cond, List, [], ◌∷◌, Option, Some, None, All, Contains, IfSome, Result, Ok}
+use Rattle.std.proofs.Common.{Err, refl, sym, ap, ◌∙◌, subst, arith}
 use Rattle.std.specs.Bool.{◌==◌}
 use Rattle.std.proofs.lemmas.Bool.Decides.{nat_tests}
 use Rattle.std.specs.Prelude.{codes}
@@ -8,7 +9,8 @@ use Rattle.std.proofs.lemmas.List.Elements.{All-contains}
 use Rattle.std.proofs.lemmas.List.Sums.{AllPass-from_list_all}
 use Rattle.std.proofs.lemmas.Slice.Eq.{bytes_eq-Decides}
 use Rattle.tn_isa.specs.declared.functions.Fun.{Fun}
-use Rattle.tn_isa.specs.declared.functions.Fun.TheVariants.{J, Ldlp, Pfix, Ldnl, Ldc, Ldnlp, Nfix, Ldl, Adc, Call, Cj, Ajw, Eqc, Stl, Stnl, Opr}
+use Rattle.tn_isa.specs.declared.functions.Fun.TheVariants.{J, Ldlp, Pfix, Ldnl, Ldc, Ldnlp, Nfix, Ldl, Adc, Call, Cj, Ajw, Eqc, Stl}
+use Rattle.tn_isa.specs.declared.functions.Fun.TheVariants.{Stnl, Opr}
 use Rattle.tn_isa.specs.declared.operations.Op.{Op}
 use Rattle.tn_isa.specs.declared.mnemonics.Mnemonic.{Mnemonic}
 use Rattle.tn_isa.specs.declared.mnemonics.Mnemonic.TheVariants.{Direct, Plain}
@@ -16,7 +18,7 @@ use Rattle.tn_isa.specs.Mnemonics.{function_name, operation_name, name_of, mnemo
 use Rattle.tn_isa.specs.Operations.{operations, operation_code, operation_with}
 use Rattle.tn_isa.proofs.Finding.{found-find}
 use Rattle.tn_isa.proofs.OperationCodes.{operation_with-operation_code, same_operation}
-use Rattle.tn_isa.proofs.Naming.{found-named, mnemonic_named-name_of}
+use Rattle.tn_isa.proofs.Naming.{found-named}
 use Rattle.tn_text.specs.declared.faults.Cause.{Cause}
 use Rattle.tn_text.specs.declared.faults.FaultCode.TheVariants.{BadLine, NameTooLong}
 use Rattle.tn_text.specs.declared.limits.TheConstants.{NAME_LIMIT}
@@ -80,7 +82,8 @@ none_sourced = AllPass-from_list_all (λ m. not (sourced m)) mnemonics refl
 
 has_mnemonic : (f : Fun) → Contains mnemonics (Direct f) → HasMnemonic f
 unfolding sourced
-has_mnemonic f h = at (is_one_of (Pfix ∷ Nfix ∷ Opr ∷ []) f) (All-contains (λ m. not (sourced m) ≡ true) mnemonics (Direct f) none_sourced h)
+has_mnemonic f h =
+    at (is_one_of (Pfix ∷ Nfix ∷ Opr ∷ []) f) (All-contains (λ m. not (sourced m) ≡ true) mnemonics (Direct f) none_sourced h)
   where
     at : (b : Bool) → not b ≡ true → b ≡ false
     at true e = absurd cc
@@ -139,7 +142,9 @@ all_read_back = AllPass-from_list_all is_read_back operations refl
 
 in_table : (op : Op) → Contains operations op
 unfolding operation_with
-in_table op = at (operation_with (operation_code op)) (operation_with-operation_code op) (found-find (λ o. operation_code o == operation_code op) operations)
+in_table op =
+    at (operation_with (operation_code op)) (operation_with-operation_code op)
+    (found-find (λ o. operation_code o == operation_code op) operations)
   where
     at : (o : Option Op) → o ≡ Some op → IfSome o (λ p. Contains operations p × ((operation_code p == operation_code op) ≡ true))
         → Contains operations op

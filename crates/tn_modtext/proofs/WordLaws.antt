@@ -1,11 +1,10 @@
 -- What stands in a line of a module are tokens.
-use Rattle.std.proofs.Common.{◌≡◌, ℕ, suc, ◌+◌, ◌^◌, ◌<◌, ◌≤◌, ℤ, pos, negsuc, Bool, true, false, ◌&&◌, not, List, [], ◌∷◌, ◌++◌, length, Option, Some, None}
-use Rattle.std.proofs.Common.{All, Contains, IfSome, Result, Ok, Err, refl, sym, ap, ◌∙◌, subst, arith, length-append}
-use Rattle.std.specs.Bool.{◌==◌}
+use Rattle.std.proofs.Common.{◌≡◌, ℕ, suc, ◌^◌, ◌<◌, pos, negsuc, true, ◌&&◌, List, [], ◌∷◌, ◌++◌, length, Option, Some, None}
+use Rattle.std.proofs.Common.{All, Contains, IfSome, Ok, refl, ap, ◌∙◌, subst, arith, length-append}
 use Rattle.std.specs.Prelude.{nat_le}
 use Rattle.std.specs.List.{list_all}
 use Rattle.std.specs.Char.{digit_value}
-use Rattle.std.specs.Fmt.{decimal, signed_decimal}
+use Rattle.std.specs.Fmt.{decimal}
 use Rattle.std.specs.Str.Parse.{AllDigits}
 use Rattle.std.proofs.lemmas.Bool.Decides.{nat_tests}
 use Rattle.std.proofs.lemmas.Fmt.{decimal_is_IsNumeral}
@@ -19,8 +18,7 @@ use Rattle.tn_isa.specs.declared.mnemonics.Mnemonic.TheVariants.{Direct, Plain}
 use Rattle.tn_isa.specs.Mnemonics.{function_name, operation_name, name_of, mnemonics, mnemonic_named}
 use Rattle.tn_isa.proofs.Naming.{found-named}
 use Rattle.tn_text.specs.declared.limits.TheConstants.{NAME_LIMIT}
-use Rattle.tn_text.specs.Names.{begins_name, continues_name, is_name, is_name_spelling}
-use Rattle.tn_text.specs.Lines.{is_nonempty}
+use Rattle.tn_text.specs.Names.{begins_name, continues_name, is_name_spelling}
 use Rattle.tn_module.specs.declared.modules.Kind.{Kind}
 use Rattle.tn_module.specs.declared.modules.Kind.TheVariants as kind
 use Rattle.tn_module.specs.declared.modules.Operand.{Operand}
@@ -33,7 +31,8 @@ use Rattle.tn_module.specs.Ranges.{IsName, IsOperand, IsCell}
 use Rattle.tn_modtext.specs.declared.lines.Line.{Line}
 use Rattle.tn_modtext.specs.declared.lines.Line.TheVariants as line
 use Rattle.tn_modtext.specs.Forms.{item_word, cell_word}
-use Rattle.tn_modtext.specs.Lines.{item_form, cell_form, kind_word, operand_text, item_args, cell_args, line_words, HasMnemonic, IsSpelledItem, IsSpelled}
+use Rattle.tn_modtext.specs.Lines.{item_form, cell_form, kind_word, operand_text, item_args, cell_args, line_words, HasMnemonic}
+use Rattle.tn_modtext.specs.Lines.{IsSpelledItem, IsSpelled}
 use Rattle.tn_modtext.specs.Tokens.{function_of, operation_of}
 use Rattle.tn_modtext.proofs.TokenLaws.{function-only, operation-only}
 use Rattle.tn_modtext.proofs.SplitLaws.{both, nonempty-cons, list_all-append, list_all-weaker, is_token_byte, is_token}
@@ -81,7 +80,9 @@ digit_bytes [] h = refl
 digit_bytes (c ∷ cs) h = rw (digit_byte c h.0, digit_bytes cs h.1) refl
 
 decimal_word : (n : ℕ) → n < 2 ^ 64 → IsWord (decimal n)
-decimal_word n small = let numeral = decimal_is_IsNumeral n small in record { some = numeral.0.0; bytes = digit_bytes (decimal n) numeral.0.1 }
+decimal_word n small =
+    let numeral = decimal_is_IsNumeral n small in
+    record { some = numeral.0.0; bytes = digit_bytes (decimal n) numeral.0.1 }
 
 decimal-token : (n : ℕ) → n < 2 ^ 64 → is_token (decimal n) ≡ true
 decimal-token n small = let w = decimal_word n small in token (decimal n) w.some w.bytes
@@ -154,7 +155,8 @@ cell-tokens (cell.Space n) h = rw (decimal-token n (omega (arith, h))) refl
 cell-tokens cell.Align h = refl
 cell-tokens (cell.Label name) h = rw (name-token name h) refl
 
-behind : (word : List ℕ) (words : List (List ℕ)) → is_token word ≡ true → list_all is_token words ≡ true → list_all is_token (word ∷ words) ≡ true
+behind : (word : List ℕ) (words : List (List ℕ)) → is_token word ≡ true → list_all is_token words ≡ true
+    → list_all is_token (word ∷ words) ≡ true
 behind word words h k = rw (h, k) refl
 
 item_first : (i : Item) → is_token (item_word (item_form i)) ≡ true

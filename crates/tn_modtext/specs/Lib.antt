@@ -8,6 +8,8 @@ pub mod Pieces
 pub mod LineFaults
 pub mod ModuleTexts
 pub mod Readers
+pub mod LibraryLines
+pub mod LibraryFaults
 pub mod Libraries
 pub mod ModuleReading
 pub mod Inner

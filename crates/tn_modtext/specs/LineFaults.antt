@@ -1,5 +1,5 @@
 -- The first line of a text that is no line of a module text at its place.
-use Rattle.std.specs.Prelude.{◌≡◌, ℕ, Bool, true, false, ◌⊎◌, List, if◌then◌else◌, Result, Ok, Err}
+use Rattle.std.specs.Prelude.{ℕ, Bool, true, false, ◌⊎◌, List, if◌then◌else◌, Result, Ok, Err}
 use Rattle.tn_text.specs.declared.faults.Cause.{Cause}
 use Rattle.tn_text.specs.declared.faults.Fault.{Fault}
 use Rattle.tn_text.specs.declared.faults.FaultCode.TheVariants.{Missing}

@@ -16,7 +16,7 @@ use Rattle.tn_module.specs.declared.modules.Cell.{Cell}
 use Rattle.tn_module.specs.declared.modules.Cell.TheVariants as cell
 use Rattle.tn_module.specs.Modules.{Parts}
 use Rattle.tn_module.specs.Names.{is_one_of}
-use Rattle.tn_module.specs.Ranges.{IsName, IsOperand, IsImport, IsItem, IsCell}
+use Rattle.tn_module.specs.Ranges.{IsName, IsOperand, IsImport, IsCell}
 use Rattle.tn_modtext.specs.declared.forms.Form.{Form}
 use Rattle.tn_modtext.specs.declared.forms.Form.TheVariants as form
 use Rattle.tn_modtext.specs.declared.forms.ItemForm.{ItemForm}

@@ -5,6 +5,9 @@
 mod counts;
 mod drafts;
 mod forms;
+mod libraries;
+mod library_drafts;
+mod library_lines;
 mod library_writers;
 mod lines;
 mod modules;
@@ -16,6 +19,7 @@ mod tokens;
 mod writers;
 
 pub use counts::{export_line, import_line, module_lines};
+pub use libraries::read_library;
 pub use library_writers::write_library;
 pub use modules::read_module;
 pub use operands::named_operand_at;

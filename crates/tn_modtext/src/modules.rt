@@ -1,5 +1,6 @@
 ghost use Rattle.std.specs.Prelude.{◌≡◌, ◌+◌, ◌<◌, ◌^◌, length};
 ghost use Rattle.tn_module.specs.Modules.{module_of, IsShort};
+ghost use Rattle.tn_modtext.specs.Lines.{lines_of};
 ghost use Rattle.tn_modtext.specs.ModuleTexts.{line_with, IsModuleText, IsModuleTextFault, IsChecked};
 ghost use Rattle.tn_modtext.specs.Readers.{Reads};
 
@@ -25,7 +26,7 @@ pub fn read_module(alloc: Global, text: &[u8]) -> Result<Module, ReadFault>
 /// The module of these parts, before which so many lines stand.
 pub(crate) fn checked(alloc: Global, raw: RawModule, before: u32) -> Result<Module, ReadFault>
     requires short { IsShort (module_of raw) }
-    requires room { before + length raw.imports.items + length raw.exports.items + length raw.items.items + length raw.cells.items + 5 < 2 ^ 31 }
+    requires room { before + length (lines_of (module_of raw)) < 2 ^ 31 }
     ensures { IsChecked before (module_of raw) result }
 {
     let imports = raw.imports.len() as u32;

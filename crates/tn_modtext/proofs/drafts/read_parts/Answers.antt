@@ -1,15 +1,11 @@
-use Rattle.std.proofs.Common.{◌≡◌, ℕ, Vec, Bor, Global, ◌+◌, List, map, arith, Result, Ok, Err, sym, ap, ◌∙◌}
-use Rattle.tn_text.specs.declared.faults.Cause.{Cause}
-use Rattle.tn_text.specs.declared.faults.Fault.{Fault}
+use Rattle.std.proofs.Common.{ℕ, Vec, Bor, Global, ◌+◌, List, map, arith, Result, Ok, Err, sym, ap, ◌∙◌}
 use Rattle.tn_text.specs.declared.faults.ReadFault.{ReadFault}
-use Rattle.tn_text.specs.Faults.{fault_at}
 use Rattle.tn_text.specs.Reading.{result_then, placed, Gives}
 use Rattle.tn_text.proofs.Results.{of-error}
 use Rattle.tn_module.specs.declared.modules.RawModule.{RawModule}
 use Rattle.tn_module.specs.Modules.{module_of}
-use Rattle.tn_modtext.specs.declared.lines.Line.{Line}
 use Rattle.tn_modtext.specs.LinesAt.{line_at}
-use Rattle.tn_modtext.specs.Inner.Drafts.{Drawn, drawn, after, whole, draft_said, parts_read}
+use Rattle.tn_modtext.specs.Inner.Drafts.{drawn, after, whole, draft_said, parts_read}
 use Rattle.tn_modtext.proofs.PieceLoops.{reads-end, tokens-stopped, tokens-bad, tokens-good}
 use Rattle.tn_modtext.proofs.drafts.read_parts.Goals as goal
 

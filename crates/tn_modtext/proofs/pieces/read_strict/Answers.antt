@@ -1,14 +1,14 @@
-use Rattle.std.proofs.Common.{◌≡◌, ℕ, Bool, true, false, ◌&&◌, List, Bor, map, Ok, Err, sym, ap, ◌∙◌}
+use Rattle.std.proofs.Common.{◌≡◌, ℕ, Bool, ◌&&◌, List, Bor, sym, ap, ◌∙◌}
 use Rattle.std.specs.List.{list_all}
 use Rattle.tn_text.specs.declared.faults.FaultCode.TheVariants.{BadLine}
 use Rattle.tn_text.specs.Faults.{bare, fault_at}
 use Rattle.tn_text.specs.Lines.{is_nonempty}
 use Rattle.tn_text.specs.Reading.{placed}
-use Rattle.tn_modtext.specs.Pieces.{strict_tokens}
 use Rattle.tn_modtext.proofs.StrictTokens.{strict-fault, strict-whole, strict-other}
 use Rattle.tn_modtext.proofs.pieces.read_strict.Goals as goal
 
-tested : {b : Bool} (result ended : Bool) (words tokens : List (Bor (List ℕ))) → result ≡ (ended && list_all (λ token. is_nonempty token.now) words)
+tested : {b : Bool} (result ended : Bool) (words tokens : List (Bor (List ℕ)))
+    → result ≡ (ended && list_all (λ token. is_nonempty token.now) words)
     → words ≡ tokens → result ≡ b → (ended && list_all (λ token. is_nonempty token.now) tokens) ≡ b
 tested result ended words tokens e same r =
     sym (e ∙ ap (λ (ws : List (Bor (List ℕ))). ended && list_all (λ token. is_nonempty token.now) ws) same) ∙ r

@@ -1,4 +1,4 @@
-use Rattle.std.proofs.Common.{◌++◌, sym, ap, ◌∙◌}
+use Rattle.std.proofs.Common.{◌++◌, ap, ◌∙◌}
 use Rattle.tn_modtext.specs.Forms.{form_word}
 use Rattle.tn_modtext.proofs.WritingLaws.{line-written}
 use Rattle.tn_modtext.proofs.writers.put_line.Goals as goal
