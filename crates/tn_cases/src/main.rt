@@ -6,12 +6,15 @@
 
 mod codings;
 mod commands;
+mod configs;
 mod faults;
 mod flat_sources;
 mod layouts;
 mod loader;
+mod module_texts;
 mod modules;
 mod operations;
+mod sources;
 mod stores;
 mod streams;
 mod texts;
@@ -22,7 +25,7 @@ use tn_io::{HostOut, Out};
 use tn_tables::{Case, Line, Report, Stop, cases_of};
 
 /// The tables, in the order of what is printed.
-const TABLES: [&str; 11] = [
+const TABLES: [&str; 14] = [
     "commands",
     "stores",
     "texts",
@@ -34,6 +37,9 @@ const TABLES: [&str; 11] = [
     "loader",
     "streams",
     "modules",
+    "sources",
+    "module_texts",
+    "configs",
 ];
 
 fn main(rt: HostRuntime) -> io::Result<()> {
@@ -92,6 +98,7 @@ fn run_case(alloc: Global, table: &str, case: &Case<'_>, report: &mut Report) ->
         "stores" => stores::run_case(alloc, case, report),
         "layouts" => layouts::run_case(alloc, case, report),
         "modules" => modules::run_case(alloc, case, report),
+        "configs" => configs::run_case(alloc, case, report),
         table => run_lines(alloc, table, case, report),
     }
 }
@@ -115,6 +122,8 @@ fn answer(alloc: Global, table: &str, line: &Line<'_>) -> Result<Vec<u8>, Stop> 
         "codings" => codings::answer(alloc, line),
         "loader" => loader::answer(alloc, line),
         "streams" => streams::answer(alloc, line),
+        "sources" => sources::answer(alloc, line),
+        "module_texts" => module_texts::answer(alloc, line),
         _ => Err(Stop::BadCase),
     }
 }

@@ -1,2 +1,4 @@
 pub mod PrintedOuts
 pub mod Inner
+pub mod TreeTexts
+pub mod Lists

@@ -1,3 +1,12 @@
 pub mod Loads
 pub mod SingleStreams
 pub mod WorkedTrees
+pub mod Weights
+pub mod Printing
+pub mod LoadBranchLaws
+pub mod LengthLaws
+pub mod TableLaws
+pub mod CountLaws
+pub mod NodeReads
+pub mod WaveLaws
+pub mod SingleTrees

@@ -1,9 +1,13 @@
 -- Streams of small trees, against numbers that were worked out by hand. Each processor has the four
 -- bytes 45 D1 60 0E as its code.
-use Rattle.std.proofs.Common.{◌≡◌, ℕ, [], ◌∷◌, length, take, drop, refl}
+use Rattle.std.proofs.Common.{◌≡◌, ℕ, List, [], ◌∷◌, length, map, take, drop, Some, None, refl}
+use Rattle.tn_net.specs.Trees.{LoadNode}
 use Rattle.tn_loader.specs.Primary.{primary_bytes}
 use Rattle.tn_loader.specs.Secondary.{secondary_bytes}
 use Rattle.tn_loader.specs.Commands.{command_bytes}
+use Rattle.tn_stream.specs.Images.{ImageBytes}
+use Rattle.tn_stream.specs.LoadBranches.{hung, branches_from, branch_at, whole_branch}
+use Rattle.tn_stream.specs.Lengths.{bytes_received, load_steps}
 use Rattle.tn_stream.specs.Branches.{Branch}
 use Rattle.tn_stream.specs.Branches.Children.{none, child}
 use Rattle.tn_stream.specs.Streams.{Site, wave, wave_below, stream}
@@ -47,3 +51,42 @@ stream_pair_forwards = refl
 pub length-stream_ring : length (stream ring) ≡ 736
 unfolding stream wave wave_below primary_bytes secondary_bytes command_bytes
 length-stream_ring = refl
+
+-- ---- the same by lists of nodes
+
+abbrev image : ImageBytes
+image = (site 0).image
+
+abbrev leaf : ℕ → ℕ → ℕ → ℕ → LoadNode
+leaf processor parent link boot =
+    record { processor = processor; parent = Some parent; parent_link = link; boot_link = boot; children = [] }
+
+abbrev pair_nodes : List LoadNode
+pair_nodes = record { processor = 0; parent = None; parent_link = 0; boot_link = 0; children = 1 ∷ [] } ∷ leaf 1 0 1 2 ∷ []
+
+abbrev ring_nodes : List LoadNode
+ring_nodes =
+    record { processor = 0; parent = None; parent_link = 0; boot_link = 0; children = 1 ∷ 3 ∷ [] }
+    ∷ record { processor = 1; parent = Some 0; parent_link = 1; boot_link = 3; children = 2 ∷ [] } ∷ leaf 2 1 1 3 ∷ leaf 3 0 3 1 ∷ []
+
+abbrev ring_images : List ImageBytes
+ring_images = image ∷ image ∷ image ∷ image ∷ []
+
+-- the branch of the ring's nodes is the ring
+pub branch_ring : whole_branch ring_images ring_nodes ≡ ring
+unfolding branches_from hung
+branch_ring = refl
+
+-- its processors get 736, 350, 157 and 157 bytes
+pub received_ring : map (λ k. bytes_received (branch_at ring_images ring_nodes k)) (0 ∷ 1 ∷ 2 ∷ 3 ∷ []) ≡ 736 ∷ 350 ∷ 157 ∷ 157 ∷ []
+unfolding branches_from hung wave wave_below primary_bytes secondary_bytes command_bytes
+received_ring = refl
+
+-- and take 3,625 steps; two processors take 1,351
+pub steps_ring : load_steps ring_images ring_nodes ≡ 3625
+unfolding branches_from hung wave wave_below primary_bytes secondary_bytes command_bytes
+steps_ring = refl
+
+pub steps_pair : load_steps (image ∷ image ∷ []) pair_nodes ≡ 1351
+unfolding branches_from hung wave wave_below primary_bytes secondary_bytes command_bytes
+steps_pair = refl

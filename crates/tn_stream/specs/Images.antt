@@ -1,5 +1,5 @@
 -- Images of processors, as contracts see them.
-use Rattle.std.specs.Prelude.{ℕ, ◌^◌, ◌<◌, List, length, map, All}
+use Rattle.std.specs.Prelude.{ℕ, ◌^◌, ◌<◌, ◌≤◌, List, length, map, All}
 use Rattle.tn_stream.specs.declared.images.Segment.{Segment}
 use Rattle.tn_stream.specs.declared.images.Image.{Image}
 
@@ -34,3 +34,24 @@ pub record IsLoadable (s : SegmentBytes) : Type 0 where
 -- every segment can be carried
 abbrev pub AreLoadable : List SegmentBytes → Type 0
 AreLoadable segments = All IsLoadable segments
+
+-- the most bytes of a segment of a processor in a network, and the most segments
+abbrev pub segment_limit : ℕ
+segment_limit = 1048576
+
+-- a segment of a processor in a network: not empty, and of at most so many bytes
+pub record IsSegment (s : SegmentBytes) : Type 0 where
+  pub some : 0 < length s.bytes
+  pub bounded : length s.bytes ≤ segment_limit
+
+-- an image of a processor in a network has at most three segments
+pub record IsImage (i : ImageBytes) : Type 0 where
+  pub few : length i.segments ≤ 3
+  pub segments : All IsSegment i.segments
+
+-- what contracts see of images
+abbrev pub images_of : List Image → List ImageBytes
+images_of images = map image_of images
+
+abbrev pub AreImages : List ImageBytes → Type 0
+AreImages images = All IsImage images

@@ -1,19 +1,13 @@
 -- Of reading module texts, and joining them to a library text.
-use Rattle.std.proofs.Common.{◌≡◌, ℕ, ◌<◌, ◌≤◌, ◌+◌, suc, List, [], ◌∷◌, length, drop, get_or, drop-cons, Result, Ok, Err, refl, sym, ap, ◌∙◌, subst, arith, lt-ltb, cond, false}
+use Rattle.std.proofs.Common.{◌≡◌, ℕ, ◌<◌, ◌≤◌, ◌+◌, suc, List, ◌∷◌, length, drop, get_or, drop-cons, Result, Ok, Err, sym, ap, ◌∙◌}
+use Rattle.std.proofs.Common.{subst, arith, lt-ltb, cond, false}
 use Rattle.std.specs.Prelude.{nat_lt}
 use Rattle.std.proofs.lemmas.Bool.Decides.{nat_tests}
 use Rattle.tn_text.specs.declared.faults.Fault.{Fault}
-use Rattle.tn_text.specs.declared.faults.ReadFault.{ReadFault}
-use Rattle.tn_text.specs.declared.faults.ReadFault.TheVariants as read
 use Rattle.tn_text.specs.declared.limits.TheConstants.{FILE_LIMIT, MODULE_LIMIT}
 use Rattle.tn_text.specs.declared.limits.Limit.TheVariants.{File, Modules}
-use Rattle.tn_text.specs.Reading.{Gives}
 use Rattle.tn_io.specs.Stores.{Stored}
 use Rattle.tn_module.specs.Modules.{Parts}
-use Rattle.tn_modtext.specs.ModuleReading.{module_read}
-use Rattle.tn_modtext.specs.ModuleTexts.{IsModuleText, IsModuleTextFault}
-use Rattle.tn_modtext.specs.Readers.{Reads}
-use Rattle.tn_modtext.proofs.ModuleReading.{reads-given}
 use Rattle.tn_top.specs.Plans.{Answer, fault, limit, Plan, stops, then_plan, at_once, each}
 use Rattle.tn_top.specs.Commands.{limited_text, or_fault, module_plan, library_text, library_plan}
 use Rattle.tn_top.proofs.StageLaws.{Walked}
@@ -31,10 +25,12 @@ given-fault file reading first e = ap (or_fault file) (sym e)
 
 -- a text within the limit, and one above it
 pub text-within : (text : List ℕ) → length text ≤ FILE_LIMIT → limited_text text ≡ Ok text
-text-within text h = ap (λ b. cond {A = Result (List ℕ) Answer} b (Err (limit File (length text))) (Ok text)) (ltb-false-of FILE_LIMIT (length text) h)
+text-within text h = ap (λ b. cond {A = Result (List ℕ) Answer} b (Err (limit File (length text))) (Ok text))
+    (ltb-false-of FILE_LIMIT (length text) h)
 
 pub text-above : (text : List ℕ) → FILE_LIMIT < length text → limited_text text ≡ Err (limit File (length text))
-text-above text h = ap (λ b. cond {A = Result (List ℕ) Answer} b (Err (limit File (length text))) (Ok text)) (lt-ltb FILE_LIMIT (length text) h)
+text-above text h = ap (λ b. cond {A = Result (List ℕ) Answer} b (Err (limit File (length text))) (Ok text))
+    (lt-ltb FILE_LIMIT (length text) h)
 
 -- sources within the limit, and too many
 pub sources-within : (sources : List (List ℕ)) → length sources ≤ MODULE_LIMIT
@@ -56,5 +52,5 @@ pub next : (names : List (List ℕ)) (i : ℕ) (name : List ℕ) (so_far : List 
 next names i name so_far before now inside is w =
     let one : suc i ≡ i + 1 = omega arith in
     let cut : drop i names ≡ name ∷ drop (i + 1) names =
-        drop-cons names i name inside ∙ ap (λ k. get_or names i name ∷ drop k names) one ∙ ap (λ n. n ∷ drop (i + 1) names) (sym is) in
+    drop-cons names i name inside ∙ ap (λ k. get_or names i name ∷ drop k names) one ∙ ap (λ n. n ∷ drop (i + 1) names) (sym is) in
     subst (λ rest. Walked module_plan names rest so_far before now) cut w

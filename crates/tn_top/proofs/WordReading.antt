@@ -1,5 +1,6 @@
 -- Words that spell a command, and what is read of them.
-use Rattle.std.proofs.Common.{◌≡◌, ℕ, ◌-◌, ◌<◌, Bool, true, false, not, ◌&&◌, cond, List, [], ◌∷◌, length, get_or, Option, Some, None, is_some, Result, Ok, Err}
+use Rattle.std.proofs.Common.{◌≡◌, ℕ, ◌-◌, ◌<◌, Bool, true, false, not, ◌&&◌, cond, List, [], ◌∷◌, length, get_or, Option, Some, None}
+use Rattle.std.proofs.Common.{is_some, Result, Ok, Err}
 use Rattle.std.proofs.Common.{IfSome, IfOk, IfErr, refl, sym, ap, ◌∙◌, subst, arith, Bor, map, le-leb, codes, ◌≤◌}
 use Rattle.std.specs.Prelude.{nat_le, IsSomeAnd, if◌then◌else◌}
 use Rattle.std.specs.Bool.{◌==◌}
@@ -20,7 +21,12 @@ use Rattle.tn_words.specs.PlainWords.{is_plain_word}
 use Rattle.tn_top.specs.declared.refusals.Refusal.{Refusal}
 use Rattle.tn_top.specs.declared.words.Command.{Command}
 use Rattle.tn_top.specs.declared.refusals.Refusal.TheVariants.{Fault, Limit, Unread, Unwritten, Unprinted, NotEnabled, NoMemory}
-use Rattle.tn_top.specs.CommandWords.{Asked, HasLink, flat, one, lib, is_file_word, link_named, two_files, one_asked, lib_asked, asked}
+use Rattle.tn_top.specs.CommandWords.{Asked, HasLink, flat, one, asm, lib, is_file_word, link_named, two_files, one_asked, lib_asked, asked}
+use Rattle.tn_io.specs.Outs.{Printed}
+use Rattle.tn_io.specs.Stores.{Stored}
+use Rattle.tn_top.specs.Plans.{Answer, Plan}
+use Rattle.tn_top.specs.Inner.Stages.{Unable}
+use Rattle.tn_top.specs.Inner.Ends.{Ends, unable}
 use Rattle.tn_top.specs.Inner.WordReading.{behind, IsReadAs, IsFor, ReadsAs, asked_by}
 
 pub both : (a b : Bool) → (a && b) ≡ true → (a ≡ true) × (b ≡ true)
@@ -33,7 +39,8 @@ pub read-transposed : {A B : Type 0} (seen : B → A) (asked : Option A) (r : Re
 read-transposed seen None r some reads = absurd cc
 read-transposed {A} {B} seen (Some a) (Ok None) some reads = absurd reads.values
 read-transposed seen (Some a) (Ok (Some b)) some reads = reads.values
-read-transposed {A} {B} seen (Some a) (Err why) some reads = subst (λ w. IsReadAs {A = A} {B = B} seen (Some a) (Some (Err w))) (sym reads.wanting) tt
+read-transposed {A} {B} seen (Some a) (Err why) some reads = subst (λ w. IsReadAs {A = A} {B = B} seen (Some a) (Some (Err w)))
+    (sym reads.wanting) tt
 
 -- words that may name files are plain
 pub plain : (word : List ℕ) → is_file_word word ≡ true → is_plain_word word ≡ true
@@ -106,7 +113,8 @@ module _ (words : List (List ℕ)) where
     where
       by : (command first second : List ℕ) → words ≡ command ∷ first ∷ second ∷ [] → (t : Bool)
           → (is_file_word first && is_file_word second) ≡ t
-          → IfSome (cond {A = Option (List ℕ × List ℕ)} t (Some (first, second)) None) (λ what. IfOk r (λ o. IsSomeAnd o (λ files. what ≡ files)))
+          → IfSome (cond {A = Option (List ℕ × List ℕ)} t (Some (first, second)) None)
+              (λ what. IfOk r (λ o. IsSomeAnd o (λ files. what ≡ files)))
       by command first second e false t = tt
       by command first second e true t =
           let files = both (is_file_word first) (is_file_word second) t in
@@ -189,18 +197,24 @@ fails p xs i x here is fail = at (list_all p xs) refl
 
 pub unasked : {X : Type 0} (f : X → List ℕ) (words : List X) (first : X) (command : List ℕ) → 1 ≤ length words
     → first ≡ get_or words 0 first → command ≡ f first → (command ≡ codes "flat" → ⊥) → (command ≡ codes "one" → ⊥)
+    → (command ≡ codes "asm" → ⊥)
     → (command ≡ codes "lib" → ⊥) → asked (map f words) ≡ None
 unfolding asked
-unasked f [] first command some is same no_flat no_one no_lib = absurd (omega arith)
-unasked f (word ∷ words) first command some is same no_flat no_one no_lib =
+unasked f [] first command some is same no_flat no_one no_asm no_lib = absurd (omega arith)
+unasked f (word ∷ words) first command some is same no_flat no_one no_asm no_lib =
     let named : command ≡ f word = same ∙ ap f is in
-    rw (← named, bytes_eq-other command (codes "flat") no_flat, bytes_eq-other command (codes "one") no_one, bytes_eq-other command (codes "lib") no_lib) refl
+    rw (← named, bytes_eq-other command (codes "flat") no_flat, bytes_eq-other command (codes "one") no_one, bytes_eq-other command
+        (codes "asm") no_asm, bytes_eq-other command (codes "lib") no_lib) refl
 
 -- ---- links
 
 either : (b : Bool) (x y : Option Asked) → IfSome x HasLink → IfSome y HasLink → IfSome (cond b x y) HasLink
 either true x y h k = h
 either false x y h k = k
+
+asm-links : (files : Option (List ℕ × List ℕ)) → IfSome (option_map (λ f. asm f.0 f.1) files) HasLink
+asm-links None = tt
+asm-links (Some f) = tt
 
 flat-links : (files : Option (List ℕ × List ℕ)) → IfSome (option_map (λ f. flat f.0 f.1) files) HasLink
 flat-links None = tt
@@ -240,7 +254,8 @@ asked-links [] = tt
 asked-links (command ∷ words) =
     either (bytes_eq command (codes "flat")) (option_map (λ f. flat f.0 f.1) (two_files words)) _ (flat-links (two_files words))
     (either (bytes_eq command (codes "one")) (one_asked words) _ (one-links words)
-    (either (bytes_eq command (codes "lib")) (lib_asked words) None (lib-links words) tt))
+    (either (bytes_eq command (codes "asm")) (option_map (λ f. asm f.0 f.1) (two_files words)) _ (asm-links (two_files words))
+    (either (bytes_eq command (codes "lib")) (lib_asked words) None (lib-links words) tt)))
 
 -- ---- what was read is what is asked for
 
@@ -265,3 +280,18 @@ pub read-link : (asked : Option Asked) (r : Result Command Refusal) → IfSome a
 read-link None (Ok c) h k = absurd k
 read-link (Some a) (Ok c) h k = subst HasLink k h
 read-link asked (Err why) h k = tt
+
+-- where there was no memory for the words, nothing was done
+pub ends-wanted : {T : Type 0} (what : Asked) (r : Result Command Refusal) (why : Refusal) → r ≡ Err why → IsFor what r
+    → (plan : Plan Answer) (stored : Stored) (printed : Printed) → Ends {T = T} plan stored stored printed printed (Err why)
+unfolding Unable
+ends-wanted what (Ok c) why e h plan stored printed = absurd cc
+ends-wanted {T} what (Err NoMemory) why e h plan stored printed =
+    let same : NoMemory ≡ why = cc in
+    subst (λ w. Ends {T = T} plan stored stored printed printed (Err w)) same (unable NoMemory tt refl refl)
+ends-wanted what (Err (Fault file first)) why e h plan stored printed = absurd h
+ends-wanted what (Err (Limit word count)) why e h plan stored printed = absurd h
+ends-wanted what (Err (Unread file)) why e h plan stored printed = absurd h
+ends-wanted what (Err (Unwritten file)) why e h plan stored printed = absurd h
+ends-wanted what (Err Unprinted) why e h plan stored printed = absurd h
+ends-wanted what (Err (NotEnabled file line tokens)) why e h plan stored printed = absurd h

@@ -1,5 +1,5 @@
 -- The words of a command line.
-use Rattle.std.specs.Prelude.{◌≡◌, ⊤, ℕ, ◌-◌, ◌<◌, Bool, ◌&&◌, nat_le, List, [], ◌∷◌, length, Option, Some, None, codes}
+use Rattle.std.specs.Prelude.{⊤, ℕ, ◌-◌, ◌<◌, Bool, ◌&&◌, nat_le, List, [], ◌∷◌, length, Option, Some, None, codes}
 use Rattle.std.specs.Prelude.{if◌then◌else◌}
 use Rattle.std.specs.List.{list_all}
 use Rattle.std.specs.Option.{option_map}
@@ -11,6 +11,7 @@ use Rattle.tn_text.specs.declared.limits.TheConstants.{FILE_NAME_LIMIT}
 pub data Asked : Type 0 where
   flat : (source target : List ℕ) → Asked
   one : (source target : List ℕ) (link : ℕ) → Asked
+  asm : (source target : List ℕ) → Asked
   lib : (target : List ℕ) (sources : List (List ℕ)) → Asked
 
 -- a word that may name a file: it isn't empty, doesn't begin with a minus sign, and has at most 255 bytes
@@ -44,7 +45,8 @@ abbrev pub asked_of : List ℕ → List (List ℕ) → Option Asked
 asked_of command words =
     if bytes_eq command (codes "flat") then option_map (λ f. flat f.0 f.1) (two_files words)
     else (if bytes_eq command (codes "one") then one_asked words
-    else (if bytes_eq command (codes "lib") then lib_asked words else None))
+    else (if bytes_eq command (codes "asm") then option_map (λ f. asm f.0 f.1) (two_files words)
+    else (if bytes_eq command (codes "lib") then lib_asked words else None)))
 
 -- what the words after the program's name ask for, if they spell a command
 unfoldable pub asked : List (List ℕ) → Option Asked

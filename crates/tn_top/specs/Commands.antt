@@ -9,8 +9,10 @@ use Rattle.tn_text.specs.declared.limits.TheConstants.{FILE_LIMIT, MODULE_LIMIT,
 use Rattle.tn_asm.specs.FlatReading.{flat_read}
 use Rattle.tn_module.specs.Modules.{Parts}
 use Rattle.tn_modtext.specs.ModuleReading.{module_read}
+use Rattle.tn_modtext.specs.Lines.{spelling}
+use Rattle.tn_asm.specs.Assembling.{assembled}
 use Rattle.tn_modtext.specs.Libraries.{library_spelling}
-use Rattle.tn_top.specs.CommandWords.{Asked, flat, one, lib, asked}
+use Rattle.tn_top.specs.CommandWords.{Asked, flat, one, asm, lib, asked}
 use Rattle.tn_top.specs.FlatCode.{flat_code}
 use Rattle.tn_top.specs.OneProcessor.{boot_stream}
 use Rattle.tn_top.specs.Plans.{Answer, usage, fault, limit, done, Plan, gives, stops, reads, then_plan, at_once, each, answer_of}
@@ -45,6 +47,19 @@ abbrev pub or_fault : {A : Type 0} → List ℕ → Result A Fault → Result A 
 or_fault file (Ok value) = Ok value
 or_fault file (Err first) = Err (fault file first)
 
+-- the text of a module that an assembler source gives
+abbrev pub text_given : List ℕ → Result Parts Fault → Result (List ℕ) Answer
+text_given source (Err first) = Err (fault source first)
+text_given source (Ok m) = limited_text (spelling m)
+
+-- the module text of an assembler source, the text of a file
+unfoldable pub module_text_in : List ℕ → List ℕ → Result (List ℕ) Answer
+module_text_in source text = text_given source (assembled text)
+
+-- an assembler source is read, and turned into its module's text
+abbrev pub assembler_plan : List ℕ → Plan (List ℕ)
+assembler_plan source = then_plan (reads source gives) (λ text. at_once (module_text_in source text))
+
 -- a module text is read
 abbrev pub module_plan : List ℕ → Plan Parts
 module_plan file = then_plan (reads file gives) (λ text. at_once (or_fault file (module_read text)))
@@ -63,6 +78,7 @@ library_plan sources =
 abbrev pub plan_of : Asked → Plan Answer
 plan_of (flat source target) = then_plan (code_plan source) (written_from target (λ code. code))
 plan_of (one source target link) = then_plan (code_plan source) (written_from target (boot_stream link))
+plan_of (asm source target) = then_plan (assembler_plan source) (written_from target (λ text. text))
 plan_of (lib target sources) = then_plan (library_plan sources) (written_from target (λ text. text))
 
 -- the plan that words ask for

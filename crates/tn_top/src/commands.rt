@@ -7,7 +7,7 @@ ghost use Rattle.tn_top.specs.CommandWords.{Asked, asked, HasLink};
 ghost use Rattle.tn_top.specs.Inner.WordReading.{IsFor, asked_by};
 ghost use Rattle.tn_top.specs.OneProcessor.{boot_stream};
 ghost use Rattle.tn_top.specs.Plans.{fault, limit, refused, then_plan};
-ghost use Rattle.tn_top.specs.Commands.{code_plan, library_plan, written_from, plan_of, plan_asked, answer};
+ghost use Rattle.tn_top.specs.Commands.{code_plan, assembler_plan, library_plan, written_from, plan_of, plan_asked, answer};
 ghost use Rattle.tn_top.specs.Outcomes.{Told, HasCause, NothingFailed, Unless, FilesAfter, PrintedAfter, Writes};
 ghost use Rattle.tn_top.specs.Outcomes.{status_of as answer_status};
 ghost use Rattle.tn_top.specs.ErrLines.{Tells, IsLine};
@@ -16,7 +16,7 @@ ghost use Rattle.tn_top.specs.Inner.Ends.{Ends};
 use crate::endings::write_file;
 use crate::err_lines::{tell_end, tell_usage};
 use crate::one_processor::write_code_stream;
-use crate::reading::{read_code, read_library_text};
+use crate::reading::{read_code, read_library_text, read_module_of};
 use crate::refusals::{Refusal, status_of};
 use crate::statuses::Status;
 use crate::words::{Command, command_of};
@@ -91,13 +91,18 @@ fn perform<S: Store, O: Out>(
         → Ends (plan_of what) (S.stored store.old) (S.stored store.new) (O.printed out.old) (O.printed out.new) result }
     ensures goes_on { O.goes_on out.old out.new }
 {
-    match command? {
+    let command = match command {
+        Ok(command) => command,
+        Err(refusal) => return Err(refusal),
+    };
+    match command {
         Command::Flat { source, target } => flat(alloc, &source, &target, store),
         Command::One {
             source,
             target,
             link,
         } => one(alloc, &source, &target, link, store),
+        Command::Asm { source, target } => asm(alloc, &source, &target, store),
         Command::Lib { target, sources } => lib(alloc, &target, &sources, store),
     }
 }
@@ -131,6 +136,20 @@ fn one<S: Store>(
 {
     let code = read_code(alloc, source, store)?;
     write_code_stream(alloc, target, link, code, store)
+}
+
+/// Turns the assembler source in one file into the module text in another.
+fn asm<S: Store>(
+    alloc: Global,
+    source: &FileName,
+    target: &FileName,
+    store: &mut S,
+) -> Result<(), Refusal>
+    ensures { (said : Printed) → Ends (then_plan (assembler_plan source.now) (written_from target.now (λ text. text)))
+        (S.stored store.old) (S.stored store.new) said said result }
+{
+    let text = read_module_of(alloc, source, store)?;
+    write_file(target, &text, store)
 }
 
 /// Joins the module texts in some files to the library text in another.

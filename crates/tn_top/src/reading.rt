@@ -1,15 +1,17 @@
 ghost use Rattle.std.specs.Prelude.{◌≡◌, ◌≤◌, length, vec_len, IfOk};
 ghost use Rattle.tn_top.specs.Plans.{reads, gives, each};
-ghost use Rattle.tn_top.specs.Commands.{code_in, code_plan, module_plan, library_text, library_plan, limited_text, or_fault};
+ghost use Rattle.tn_top.specs.Commands.{code_in, code_plan, module_text_in, assembler_plan, module_plan, library_text, library_plan};
+ghost use Rattle.tn_top.specs.Commands.{limited_text, or_fault};
+ghost use Rattle.tn_modtext.specs.Lines.{spelling};
 ghost use Rattle.tn_modtext.specs.ModuleReading.{module_read};
 ghost use Rattle.tn_top.specs.Inner.Stages.{Staged, Makes};
 
 use crate::flat_code::flat_code;
 use crate::refusals::Refusal;
 use std::alloc::Global;
-use tn_asm::read_flat;
+use tn_asm::{assemble, read_flat};
 use tn_io::{GetFault, Store};
-use tn_modtext::{read_module, write_library};
+use tn_modtext::{read_module, write_library, write_module};
 use tn_module::{Library, Module};
 use tn_text::limits::{CODE_LIMIT, FILE_LIMIT, Limit, MODULE_LIMIT};
 use tn_text::{FileName, ReadFault};
@@ -62,6 +64,39 @@ fn code_in(alloc: Global, source: &FileName, text: &[u8]) -> Result<Vec<u8>, Ref
         return Err(Refusal::Limit(Limit::Code, code.len() as u64));
     }
     Ok(code)
+}
+
+/// The text of the module that the assembler source in a file stands for.
+pub fn read_module_of<S: Store>(
+    alloc: Global,
+    source: &FileName,
+    store: &mut S,
+) -> Result<Vec<u8>, Refusal>
+    ensures { Staged (λ text. text.items) (assembler_plan source.now) (S.stored store.old) (S.stored store.new) result }
+{
+    let text = read_file(alloc, source, store)?;
+    module_text_in(alloc, source, &text)
+}
+
+/// The text of the module of an assembler source, the text of a file.
+#[tactic(auto, unfolding(crate::specs::Commands::module_text_in))]
+fn module_text_in(alloc: Global, source: &FileName, text: &[u8]) -> Result<Vec<u8>, Refusal>
+    requires { length text.now ≤ FILE_LIMIT }
+    ensures { Makes (λ text. text.items) (module_text_in source.now text.now) result }
+{
+    match assemble(alloc, text) {
+        Ok(read) => module_text(alloc, &read),
+        Err(ReadFault::Fault(first)) => Err(Refusal::Fault(source.copied(), first)),
+        Err(ReadFault::NoMemory) => Err(Refusal::NoMemory),
+    }
+}
+
+/// The text of a module.
+fn module_text(alloc: Global, read: &Module) -> Result<Vec<u8>, Refusal>
+    ensures { Makes (λ text. text.items) (limited_text (spelling read.now)) result }
+{
+    let text = write_module(alloc, read)?;
+    limited(text)
 }
 
 /// The module of the module text in a file.

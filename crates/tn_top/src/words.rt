@@ -1,8 +1,9 @@
-ghost use Rattle.std.specs.Prelude.{◌≡◌, ◌<◌, ℕ, List, [], ◌∷◌, true, false, Some, None, map, string_bytes, IfSome, IfOk, IfErr, IsSomeAnd, is_some, if◌then◌else◌};
+ghost use Rattle.std.specs.Prelude.{◌≡◌, ◌<◌, ℕ, List, [], ◌∷◌, true, false, Some, None, map, string_bytes, IfSome, IfOk, IfErr};
+ghost use Rattle.std.specs.Prelude.{IsSomeAnd, is_some, if◌then◌else◌};
 ghost use Rattle.std.specs.List.{list_all};
 ghost use Rattle.std.specs.Option.{option_map};
 ghost use Rattle.tn_top.specs.declared.refusals.Refusal.TheVariants.{NoMemory};
-ghost use Rattle.tn_top.specs.CommandWords.{flat, one, lib, is_file_word, link_named, two_files, one_asked, lib_asked, asked};
+ghost use Rattle.tn_top.specs.CommandWords.{flat, one, asm, lib, is_file_word, link_named, two_files, one_asked, lib_asked, asked};
 ghost use Rattle.tn_top.specs.Inner.WordReading.{behind, IsReadAs, ReadsAs, asked_by};
 
 use crate::refusals::Refusal;
@@ -25,6 +26,11 @@ pub enum Command {
         target: FileName,
         link: u8,
     },
+    /// Turn the assembler source in one file into the module text in another.
+    Asm {
+        source: FileName,
+        target: FileName,
+    },
     /// Join the module texts in some files to the library text in another.
     Lib {
         target: FileName,
@@ -45,6 +51,7 @@ pub fn command_of(alloc: Global, words: &[String]) -> Option<Result<Command, Ref
     match command.as_str() {
         "flat" => flat_words(alloc, words),
         "one" => one_words(alloc, words),
+        "asm" => asm_words(alloc, words),
         "lib" => lib_words(alloc, words),
         _ => None,
     }
@@ -68,6 +75,16 @@ fn one_words(alloc: Global, words: &[String]) -> Option<Result<Command, Refusal>
         return None;
     }
     read_one(alloc, words).transpose()
+}
+
+/// The words of `asm IN OUT`.
+fn asm_words(alloc: Global, words: &[String]) -> Option<Result<Command, Refusal>>
+    ensures { IsReadAs asked_by (option_map (λ f. asm f.0 f.1) (two_files (behind (map string_bytes words.now)))) result }
+{
+    match two_file_words(alloc, words)? {
+        Ok((source, target)) => Some(Ok(Command::Asm { source, target })),
+        Err(refusal) => Some(Err(refusal)),
+    }
 }
 
 /// The words of `lib OUT IN..`.

@@ -1,12 +1,14 @@
 -- A word behind the word of a command, and all others.
 use Rattle.std.specs.Prelude.{fold, ◌&&◌, is_some}
-use Rattle.std.proofs.Common.{append_assoc, append-nil, sym, length, le-leb, ◌≤◌, arith, refl, codes, true, false, List, Some, None, [], ◌∷◌, ◌++◌, ◌≡◌, ◌∙◌, ap}
+use Rattle.std.proofs.Common.{append_assoc, append-nil, sym, length, le-leb, ◌≤◌, arith, refl, codes, true, false, List, Some, None, []}
+use Rattle.std.proofs.Common.{◌∷◌, ◌++◌, ◌≡◌, ◌∙◌, ap}
 use Rattle.std.specs.List.{list_all}
 use Rattle.clap.specs.Lexer.{usize_max}
 use Rattle.clap.specs.Walk.{positional, Walk, walked, walk, walk_from, nothing_held, reading_by, finished}
 use Rattle.clap.specs.Simple.{built, filled, with_index, entered}
 use Rattle.clap.specs.declared.parser.matches.ValueSource.TheVariants.{CommandLine}
-use Rattle.clap.specs.Takes.{value_passes, entered_passes, turn_passes, walk_passes, settle_passes, default_passes, is_valid, level_passes, takes}
+use Rattle.clap.specs.Takes.{value_passes, entered_passes, turn_passes, walk_passes, settle_passes, default_passes, is_valid}
+use Rattle.clap.specs.Takes.{level_passes, takes}
 use Rattle.clap.specs.Words.{App, Shape, Row, Rule, Text, first_of, all_of, matches_of, new_app, with_rule}
 use Rattle.clap.proofs.OnLiterals.{clap_on_literals}
 use Rattle.tn_words.specs.PlainWords.{is_plain_word}
@@ -23,7 +25,8 @@ built_rules = (built several).top.rules
 
 -- where the walk stands behind the first word and some others
 abbrev first_row : Text → Row
-first_row first = record { id = codes "first"; values = first ∷ []; count = None; source = Some CommandLine; reading = reading_by (filled (required (codes "first"))) }
+first_row first = record { id = codes "first"; values = first ∷ []; count = None; source = Some CommandLine; reading = reading_by
+    (filled (required (codes "first"))) }
 
 abbrev behind : Text → Text → List Text → Walk
 behind first second more = record {
@@ -82,7 +85,8 @@ first_is command first second rest h = ap (first_of (codes "first")) (rows_are c
 
 pub others_are : (command first second : Text) (rest : List Text) → list_all is_plain_word (first ∷ second ∷ rest) ≡ true
     → all_of (codes "others") (matches_of several (command ∷ first ∷ second ∷ rest)) ≡ Some (second ∷ rest)
-others_are command first second rest h = ap (all_of (codes "others")) (rows_are command first second rest h) ∙ others_row-is first second rest
+others_are command first second rest h = ap (all_of (codes "others")) (rows_are command first second rest h)
+    ∙ others_row-is first second rest
 
 -- ---- the words are taken
 
@@ -90,7 +94,8 @@ abbrev pub built_shape : Shape
 built_shape = (built several).top
 
 start_passes : (first second : Text) → is_plain_word first ≡ true → is_plain_word second ≡ true
-    → (turn_passes built_shape [] (walk_from nothing_held) first && turn_passes built_shape [] (walked built_rules [] (walk_from nothing_held) first) second) ≡ true
+    → (turn_passes built_shape [] (walk_from nothing_held) first && turn_passes built_shape []
+        (walked built_rules [] (walk_from nothing_held) first) second) ≡ true
 unfolding clap_on_literals
 start_passes [] second h k = absurd cc
 start_passes (c ∷ cs) [] h k = absurd cc
@@ -108,7 +113,8 @@ unfolding walk_passes
 rest_passes first second more [] h = refl
 rest_passes first second more (word ∷ rest) h =
     let parts = both (is_plain_word word) (list_all is_plain_word rest) h in
-    rw (one_passes first second more word parts.0, one_more first second more word parts.0) (rest_passes first second (more ++ word ∷ []) rest parts.1)
+    rw (one_passes first second more word parts.0, one_more first second more word parts.0)
+        (rest_passes first second (more ++ word ∷ []) rest parts.1)
 
 abbrev others_built : Rule
 others_built = with_index 2 (filled others)
@@ -121,20 +127,24 @@ settles : (first second : Text) (rest : List Text) → length (second ∷ rest) 
     → (settle_passes built_rules false (behind first second rest).held
     && (list_all default_passes built_rules && is_valid built_shape (finished built_rules (behind first second rest).held) false)) ≡ true
 unfolding clap_on_literals
-settles first second rest few = simp (le-leb 1 (length (second ∷ rest)) (omega arith), le-leb (length (second ∷ rest)) usize_max few, all_pass rest)
+settles first second rest few = simp
+    (le-leb 1 (length (second ∷ rest)) (omega arith), le-leb (length (second ∷ rest)) usize_max few, all_pass rest)
 
-level : (first second : Text) (rest : List Text) → list_all is_plain_word (first ∷ second ∷ rest) ≡ true → length (second ∷ rest) ≤ usize_max
+level : (first second : Text) (rest : List Text) → list_all is_plain_word (first ∷ second ∷ rest) ≡ true → length
+    (second ∷ rest) ≤ usize_max
     → level_passes built_shape [] nothing_held (first ∷ second ∷ rest) false ≡ true
 unfolding walk_passes
 level first second rest h few =
     let one = both (is_plain_word first) (list_all is_plain_word (second ∷ rest)) h in
     let two = both (is_plain_word second) (list_all is_plain_word rest) one.1 in
     let begun = both (turn_passes built_shape [] (walk_from nothing_held) first) _ (start_passes first second one.0 two.0) in
-    rw (begun.0, begun.1, start first second one.0 two.0, rest_passes first second [] rest two.1, walk_is first second rest h) (settles first second rest few)
+    rw (begun.0, begun.1, start first second one.0 two.0, rest_passes first second [] rest two.1, walk_is first second rest h)
+        (settles first second rest few)
 
 pub taken : (command first second : Text) (rest : List Text) → list_all is_plain_word (first ∷ second ∷ rest) ≡ true
     → length (second ∷ rest) ≤ usize_max → takes several (command ∷ first ∷ second ∷ rest) ≡ true
 taken command first second rest h few =
     ap (λ (w : Walk). entered_passes (built several) w.stopped
-    && level_passes built_shape [] nothing_held (first ∷ second ∷ rest) (is_some (entered (built several) w.stopped))) (walk_is first second rest h)
+    && level_passes built_shape [] nothing_held (first ∷ second ∷ rest) (is_some (entered (built several) w.stopped)))
+        (walk_is first second rest h)
     ∙ level first second rest h few

@@ -3,8 +3,8 @@ use Rattle.std.specs.Prelude.{◌≡◌, ⊤, ℕ, List, [], ◌∷◌, Option, 
 use Rattle.tn_top.specs.declared.refusals.Refusal.{Refusal}
 use Rattle.tn_top.specs.declared.refusals.Refusal.TheVariants.{NoMemory}
 use Rattle.tn_top.specs.declared.words.Command.{Command}
-use Rattle.tn_top.specs.declared.words.Command.TheVariants.{Flat, One, Lib}
-use Rattle.tn_top.specs.CommandWords.{Asked, flat, one, lib}
+use Rattle.tn_top.specs.declared.words.Command.TheVariants.{Flat, One, Asm, Lib}
+use Rattle.tn_top.specs.CommandWords.{Asked, flat, one, asm, lib}
 
 -- the words behind the first
 abbrev pub behind : List (List ℕ) → List (List ℕ)
@@ -27,6 +27,7 @@ pub record ReadsAs {A B : Type 0} (seen : B → A) (asked : Option A) (result : 
 abbrev pub asked_by : Command → Asked
 asked_by (Flat source target) = flat source target
 asked_by (One source target link) = one source target link
+asked_by (Asm source target) = asm source target
 asked_by (Lib target sources) = lib target sources.items
 
 -- the command is what is asked for, unless there is no memory

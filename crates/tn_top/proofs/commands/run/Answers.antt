@@ -1,15 +1,18 @@
-use Rattle.std.proofs.Common.{◌≡◌, ◌∙◌, ap, sym, map, string_bytes, Some, IfSome, subst}
+use Rattle.std.proofs.Common.{ap, map, string_bytes}
 use Rattle.std.specs.Option.{option_map}
-use Rattle.tn_top.specs.CommandWords.{asked, HasLink}
+use Rattle.tn_top.specs.CommandWords.{asked}
 use Rattle.tn_top.specs.Commands.{plan_of, plan_asked}
 use Rattle.tn_top.specs.Refusals.{end_line}
 use Rattle.tn_top.proofs.RunLaws.{runs, run_line}
 use Rattle.tn_top.proofs.WordReading.{asked-links, read-some, read-link}
 use Rattle.tn_top.proofs.commands.run.Goals as goal
 
-pub perform-ended-requires-clause-link : goal.perform-ended-requires-clause-link
-perform-ended-requires-clause-link g c =
-    read-link (asked (map string_bytes c.args.words.now)) c.in-Some.command (asked-links (map string_bytes c.args.words.now)) c.in-Some.ensures
+pub perform-ended-requires : goal.perform-ended-requires
+perform-ended-requires g c =
+    record {
+      link = read-link (asked (map string_bytes c.args.words.now)) c.in-Some.command (asked-links (map string_bytes c.args.words.now))
+          c.in-Some.ensures;
+    }
 
 pub returns-clause-cause : goal.returns-clause-cause
 returns-clause-cause g c =
@@ -25,7 +28,7 @@ returns-clause-status g c =
     (runs (plan_asked (map string_bytes c.args.words.now)) (plan_of found.what) (ap (option_map plan_of) found.is)
     (g.S.Store.stored c.args.store.now) (g.S.Store.stored c.perform-ended.new.store) (g.O.Out.printed c.args.out.now)
     (g.O.Out.printed c.perform-ended.new.out) c.perform-ended.result (c.perform-ended.ensures.ends found.what found.reads)
-    c.status_of.result c.status_of.ensures).status
+    c.status_of.result c.status_of.ensures).status_is
 
 pub returns-clause-fault : goal.returns-clause-fault
 returns-clause-fault g c =

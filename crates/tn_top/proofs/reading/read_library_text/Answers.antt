@@ -1,7 +1,6 @@
-use Rattle.std.proofs.Common.{◌≡◌, ◌∙◌, Vec, Global, List, ℕ, Err, ap, sym, subst, length, arith}
+use Rattle.std.proofs.Common.{Vec, Global, List, ℕ, Err, refl, sym, subst, length, arith}
 use Rattle.tn_text.specs.declared.limits.Limit.TheVariants.{Modules}
 use Rattle.tn_text.proofs.Results.{of-error}
-use Rattle.tn_io.specs.Stores.{Stored}
 use Rattle.tn_module.specs.Modules.{Parts}
 use Rattle.tn_top.specs.declared.refusals.Refusal.TheVariants.{Limit}
 use Rattle.tn_top.specs.Plans.{Plan, limit, then_plan, at_once, each}
@@ -23,7 +22,7 @@ returns-then-sources-gt-MODULE_LIMIT g c =
     let stored = g.S.Store.stored c.args.store.now in
     subst (λ (p : Plan (List ℕ)). Staged seen p stored stored (Err (Limit Modules (length sources))))
     (sym (sources-above sources (omega (arith, c.if-sources-gt-MODULE_LIMIT.true))))
-    (staged-made seen (Err (limit Modules (length sources))) stored (Err (Limit Modules (length sources))) (λ i. _))
+    (staged-made seen (Err (limit Modules (length sources))) stored (Err (Limit Modules (length sources))) refl)
 
 pub returns-in_err-modules : goal.returns-in_err-modules
 returns-in_err-modules g c =

@@ -1,4 +1,4 @@
-use Rattle.std.proofs.Common.{◌≡◌, ◌∙◌, ℕ, List, [], get_or, Bor, map, take, length, Option, Some, None, true, sym, ap, arith}
+use Rattle.std.proofs.Common.{◌≡◌, ◌∙◌, ℕ, List, [], get_or, Bor, map, take, ap, arith}
 use Rattle.std.proofs.lemmas.List.{take_all}
 use Rattle.tn_top.proofs.WordReading.{unnamed, named-at}
 use Rattle.tn_top.proofs.words.files_of.Goals as goal
@@ -13,5 +13,6 @@ returns-in-None-clause-values c h =
 
 pub returns-clause-values : goal.returns-clause-values
 returns-clause-values c h =
-    let all : take c.loop-word.word-index c.args.words.now ≡ c.args.words.now = take_all c.loop-word.word-index c.args.words.now (omega arith) in
+    let all : take c.loop-word.word-index c.args.words.now ≡ c.args.words.now = take_all c.loop-word.word-index c.args.words.now
+        (omega arith) in
     c.loop-word.invariant ∙ ap (map (λ (w : Bor (List ℕ)). w.now)) all

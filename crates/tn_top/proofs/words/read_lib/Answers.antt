@@ -1,4 +1,4 @@
-use Rattle.std.proofs.Common.{◌≡◌, ◌∙◌, List, ℕ, Some, Ok, map, string_bytes, ◌∷◌}
+use Rattle.std.proofs.Common.{◌∙◌, map, string_bytes, ◌∷◌}
 use Rattle.std.specs.List.{list_all}
 use Rattle.tn_top.specs.CommandWords.{is_file_word}
 use Rattle.tn_top.proofs.WordReading.{both, all_plain, lib_reads}

@@ -1,4 +1,4 @@
-use Rattle.std.proofs.Common.{rules, ◌≡◌, ◌∙◌, List, ℕ, Some, Ok, refl, map, string_bytes}
+use Rattle.std.proofs.Common.{◌∙◌, Ok, refl, map, string_bytes}
 use Rattle.tn_top.proofs.WordReading.{two_plain, two_reads}
 use Rattle.tn_top.proofs.words.read_two.Goals as goal
 

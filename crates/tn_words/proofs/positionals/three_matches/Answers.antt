@@ -12,9 +12,9 @@ returns c =
     let second_rule : rule_of c.required-second.result ≡ required (codes "second") = search rules in
     let third_rule : rule_of c.required-third.result ≡ required (codes "third") = search rules in
     let command_is : app_of c.in_ok-command.command ≡ three =
-        c.in_ok-command.ensures.shape (search rules)
-        ∙ ap₂ with_rule (c.in_ok-arg-2.ensures.shape (search rules)
-        ∙ ap₂ with_rule (c.in_ok-arg.ensures.shape (search rules) ∙ ap₂ with_rule c.new-4.ensures.app first_rule) second_rule) third_rule in
+    c.in_ok-command.ensures.shape (search rules)
+    ∙ ap₂ with_rule (c.in_ok-arg-2.ensures.shape (search rules)
+    ∙ ap₂ with_rule (c.in_ok-arg.ensures.shape (search rules) ∙ ap₂ with_rule c.new-4.ensures.app first_rule) second_rule) third_rule in
     let parse = c.try_get_matches_from in
     record {
       values = λ command first second third same h. IfOk-weaker parse.result _ _ (λ m has.

@@ -11,8 +11,8 @@ returns c =
     let first_rule : rule_of c.required-first.result ≡ required (codes "first") = search rules in
     let second_rule : rule_of c.required-second.result ≡ required (codes "second") = search rules in
     let command_is : app_of c.in_ok-command.command ≡ two =
-        c.in_ok-command.ensures.shape (search rules)
-        ∙ ap₂ with_rule (c.in_ok-arg.ensures.shape (search rules) ∙ ap₂ with_rule c.new-3.ensures.app first_rule) second_rule in
+    c.in_ok-command.ensures.shape (search rules)
+    ∙ ap₂ with_rule (c.in_ok-arg.ensures.shape (search rules) ∙ ap₂ with_rule c.new-3.ensures.app first_rule) second_rule in
     let parse = c.try_get_matches_from in
     record {
       values = λ command first second same h. IfOk-weaker parse.result _ _ (λ m has.

@@ -1,0 +1,5 @@
+pub mod Places
+pub mod Programs
+pub mod Cells
+pub mod Linking
+pub mod Inner

@@ -1,0 +1,13 @@
+use Rattle.tn_loader.specs.Secondary.{secondary_bytes}
+use Rattle.tn_stream.proofs.Printing.{Prints-as, Prints-joined, Prints-stopped, Prints-refused}
+use Rattle.tn_stream.proofs.collects.emit_secondary.Goals as goal
+
+pub returns-in_err-write-clause-prints : goal.returns-in_err-write-clause-prints
+returns-in_err-write-clause-prints g c =
+    Prints-refused c.from_residual.ensures.0 (Prints-stopped secondary_bytes
+    (Prints-as c.word_bytes.ensures.bytes c.in_err-write.ensures.prints))
+
+pub returns-clause-prints : goal.returns-clause-prints
+returns-clause-prints g c =
+    Prints-joined (Prints-as c.word_bytes.ensures.bytes c.in_ok-write.ensures.prints)
+    (Prints-as c.secondary.ensures.bytes c.write-2.ensures.prints)

@@ -1,0 +1,2 @@
+pub mod LowLengths
+pub mod Tables
