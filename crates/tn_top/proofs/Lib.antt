@@ -6,4 +6,6 @@ pub mod ReadLaws
 pub mod FlatCodes
 pub mod EndLaws
 pub mod RunLaws
+pub mod WordReading
 pub mod ErrLines
+pub mod LibraryTexts

@@ -69,3 +69,32 @@ module _
 
     pub run_line : IsLine asked before after s (end_line r)
     run_line = carried (λ a t. IsLine a before after t (end_line r)) (ends_line plan before after old new r ends)
+
+-- all that holds of a command that ended
+pub record Runs (asked : Option (Plan Answer)) (before after : Stored) (old new : Printed) (s : Status) : Type 0 where
+  pub cause : HasCause asked before after old new s
+  pub status_is : NothingFailed before after old new → IfSome before.files (λ fs. Unless s (status_of (answer_to asked fs)))
+  pub fault : (Rose before.read_faults after.read_faults → ⊥)
+      → IfSome before.files (λ fs. (file : List ℕ) (first : Fault) → answer_to asked fs ≡ fault file first → Unless s status.Fault)
+  pub limit : (Rose before.read_faults after.read_faults → ⊥)
+      → IfSome before.files (λ fs. (which : Limit) (count : ℕ) → answer_to asked fs ≡ limit which count → Unless s status.Limit)
+  pub not_enabled : (Rose before.read_faults after.read_faults → ⊥) → (Rose old.faults new.faults → ⊥)
+      → IfSome before.files (λ fs. (file : List ℕ) (line : ℕ) (tokens text : List ℕ) → answer_to asked fs ≡ refused file line tokens text
+      → Unless s status.NotEnabled)
+  pub files : IfSome before.files (λ fs. Told before.files after.files (FilesAfter (answer_to asked fs) s))
+  pub closed : (target : List ℕ) → Writes asked target → s ≡ status.Done → after.opened ≡ None
+  pub print : IfSome before.files (λ fs. PrintedAfter (answer_to asked fs) s old new)
+
+pub runs : {T : Type 0} (asked : Option (Plan Answer)) (plan : Plan Answer) → asked ≡ Some plan → (before after : Stored)
+    (old new : Printed)
+    (r : Result T Refusal) → Ends plan before after old new r → (s : Status) → s ≡ end_status r → Runs asked before after old new s
+runs asked plan is before after old new r ends s said = record {
+  cause = run_cause asked plan is before after old new r ends s said;
+  status_is = run_status asked plan is before after old new r ends s said;
+  fault = run_fault asked plan is before after old new r ends s said;
+  limit = run_limit asked plan is before after old new r ends s said;
+  not_enabled = run_not_enabled asked plan is before after old new r ends s said;
+  files = run_files asked plan is before after old new r ends s said;
+  closed = run_closed asked plan is before after old new r ends s said;
+  print = run_print asked plan is before after old new r ends s said;
+}

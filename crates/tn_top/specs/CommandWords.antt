@@ -1,40 +1,59 @@
 -- The words of a command line.
-use Rattle.std.specs.Prelude.{⊤, ℕ, ◌-◌, ◌<◌, Bool, false, not, ◌&&◌, ◌==◌, nat_le, List, [], ◌∷◌, length, Option, Some, None, codes}
+use Rattle.std.specs.Prelude.{⊤, ℕ, ◌-◌, ◌<◌, Bool, ◌&&◌, nat_le, List, [], ◌∷◌, length, Option, Some, None, codes}
 use Rattle.std.specs.Prelude.{if◌then◌else◌}
+use Rattle.std.specs.List.{list_all}
 use Rattle.std.specs.Option.{option_map}
 use Rattle.std.specs.Str.{bytes_eq}
+use Rattle.tn_words.specs.PlainWords.{is_plain_word}
 use Rattle.tn_text.specs.declared.limits.TheConstants.{FILE_NAME_LIMIT}
-use Rattle.tn_top.specs.declared.words.Command.{Command}
-use Rattle.tn_top.specs.declared.words.Command.TheVariants.{Flat, One}
 
--- a word that may name a file: it has 1 to 255 bytes, and doesn't begin with a minus sign
+-- what words ask for
+pub data Asked : Type 0 where
+  flat : (source target : List ℕ) → Asked
+  one : (source target : List ℕ) (link : ℕ) → Asked
+  asm : (source target : List ℕ) → Asked
+  lib : (target : List ℕ) (sources : List (List ℕ)) → Asked
+
+-- a word that may name a file: it isn't empty, doesn't begin with a minus sign, and has at most 255 bytes
 abbrev pub is_file_word : List ℕ → Bool
-is_file_word [] = false
-is_file_word (c ∷ cs) = not (c == 45) && nat_le (length (c ∷ cs)) FILE_NAME_LIMIT
+is_file_word word = is_plain_word word && nat_le (length word) FILE_NAME_LIMIT
 
 -- the link that a word names, 0 to 3
 unfoldable pub link_named : List ℕ → Option ℕ
 link_named (c ∷ []) = if nat_le 48 c && nat_le c 51 then Some (c - 48) else None
 link_named _ = None
 
--- what three words ask for
-abbrev pub flat_asked : List ℕ → List ℕ → List ℕ → Option Command
-flat_asked command source target =
-    if bytes_eq command (codes "flat") && (is_file_word source && is_file_word target) then Some (Flat source target) else None
+-- two files
+abbrev pub two_files : List (List ℕ) → Option (List ℕ × List ℕ)
+two_files (first ∷ second ∷ []) = if is_file_word first && is_file_word second then Some (first, second) else None
+two_files _ = None
 
--- what four words ask for
-abbrev pub one_asked : List ℕ → List ℕ → List ℕ → List ℕ → Option Command
-one_asked command source target link =
-    if bytes_eq command (codes "one") && (is_file_word source && is_file_word target) then option_map (λ k. One source target k)
-    (link_named link) else None
+-- two files and a link
+abbrev pub one_asked : List (List ℕ) → Option Asked
+one_asked (source ∷ target ∷ link ∷ []) =
+    if is_file_word source && is_file_word target then option_map (λ k. one source target k) (link_named link) else None
+one_asked _ = None
+
+-- a file and others, one at least
+abbrev pub lib_asked : List (List ℕ) → Option Asked
+lib_asked (target ∷ source ∷ sources) =
+    if list_all is_file_word (target ∷ source ∷ sources) then Some (lib target (source ∷ sources)) else None
+lib_asked _ = None
+
+-- what the words behind the word of a command ask for
+abbrev pub asked_of : List ℕ → List (List ℕ) → Option Asked
+asked_of command words =
+    if bytes_eq command (codes "flat") then option_map (λ f. flat f.0 f.1) (two_files words)
+    else (if bytes_eq command (codes "one") then one_asked words
+    else (if bytes_eq command (codes "asm") then option_map (λ f. asm f.0 f.1) (two_files words)
+    else (if bytes_eq command (codes "lib") then lib_asked words else None)))
 
 -- what the words after the program's name ask for, if they spell a command
-unfoldable pub asked : List (List ℕ) → Option Command
-asked (command ∷ source ∷ target ∷ []) = flat_asked command source target
-asked (command ∷ source ∷ target ∷ link ∷ []) = one_asked command source target link
-asked _ = None
+unfoldable pub asked : List (List ℕ) → Option Asked
+asked [] = None
+asked (command ∷ words) = asked_of command words
 
 -- a link of a command is below 4
-abbrev pub HasLink : Command → Type 0
-HasLink (Flat source target) = ⊤
-HasLink (One source target link) = link < 4
+abbrev pub HasLink : Asked → Type 0
+HasLink (one source target link) = link < 4
+HasLink _ = ⊤

@@ -4,19 +4,26 @@ use Rattle.std.specs.Option.{option_map}
 use Rattle.tn_isa.specs.declared.functions.Fun.{Fun}
 use Rattle.tn_io.specs.FileLists.{Files}
 use Rattle.tn_text.specs.declared.faults.Fault.{Fault}
-use Rattle.tn_text.specs.declared.limits.Limit.TheVariants.{Code}
-use Rattle.tn_text.specs.declared.limits.TheConstants.{CODE_LIMIT}
+use Rattle.tn_text.specs.declared.limits.Limit.TheVariants.{File, Modules, Code}
+use Rattle.tn_text.specs.declared.limits.TheConstants.{FILE_LIMIT, MODULE_LIMIT, CODE_LIMIT}
 use Rattle.tn_asm.specs.FlatReading.{flat_read}
-use Rattle.tn_top.specs.declared.words.Command.{Command}
-use Rattle.tn_top.specs.declared.words.Command.TheVariants.{Flat, One}
-use Rattle.tn_top.specs.CommandWords.{asked}
+use Rattle.tn_module.specs.Modules.{Parts}
+use Rattle.tn_modtext.specs.ModuleReading.{module_read}
+use Rattle.tn_modtext.specs.Lines.{spelling}
+use Rattle.tn_asm.specs.Assembling.{assembled}
+use Rattle.tn_modtext.specs.Libraries.{library_spelling}
+use Rattle.tn_top.specs.CommandWords.{Asked, flat, one, asm, lib, asked}
 use Rattle.tn_top.specs.FlatCode.{flat_code}
 use Rattle.tn_top.specs.OneProcessor.{boot_stream}
-use Rattle.tn_top.specs.Plans.{Answer, usage, fault, limit, done, Plan, gives, reads, then_plan, at_once, answer_of}
+use Rattle.tn_top.specs.Plans.{Answer, usage, fault, limit, done, Plan, gives, stops, reads, then_plan, at_once, each, answer_of}
 
 -- code of at most 262,144 bytes
 abbrev pub limited_code : List ℕ → Result (List ℕ) Answer
 limited_code bytes = if nat_lt CODE_LIMIT (length bytes) then Err (limit Code (length bytes)) else Ok bytes
+
+-- a text of at most 1,048,576 bytes
+abbrev pub limited_text : List ℕ → Result (List ℕ) Answer
+limited_text text = if nat_lt FILE_LIMIT (length text) then Err (limit File (length text)) else Ok text
 
 -- the code of what a flat source gives
 abbrev pub code_given : List ℕ → Result (List (Fun × ℤ)) Fault → Result (List ℕ) Answer
@@ -35,10 +42,44 @@ code_plan source = then_plan (reads source gives) (λ text. at_once (code_in sou
 abbrev pub written_from : List ℕ → (List ℕ → List ℕ) → List ℕ → Plan Answer
 written_from target made code = gives (done (Some (target, made code)) [])
 
--- the plan of a command
-abbrev pub plan_of : Command → Plan Answer
-plan_of (Flat source target) = then_plan (code_plan source) (written_from target (λ code. code))
-plan_of (One source target link) = then_plan (code_plan source) (written_from target (boot_stream link))
+-- what was read from a file, or the file's fault
+abbrev pub or_fault : {A : Type 0} → List ℕ → Result A Fault → Result A Answer
+or_fault file (Ok value) = Ok value
+or_fault file (Err first) = Err (fault file first)
+
+-- the text of a module that an assembler source gives
+abbrev pub text_given : List ℕ → Result Parts Fault → Result (List ℕ) Answer
+text_given source (Err first) = Err (fault source first)
+text_given source (Ok m) = limited_text (spelling m)
+
+-- the module text of an assembler source, the text of a file
+unfoldable pub module_text_in : List ℕ → List ℕ → Result (List ℕ) Answer
+module_text_in source text = text_given source (assembled text)
+
+-- an assembler source is read, and turned into its module's text
+abbrev pub assembler_plan : List ℕ → Plan (List ℕ)
+assembler_plan source = then_plan (reads source gives) (λ text. at_once (module_text_in source text))
+
+-- a module text is read
+abbrev pub module_plan : List ℕ → Plan Parts
+module_plan file = then_plan (reads file gives) (λ text. at_once (or_fault file (module_read text)))
+
+-- the text of a library of modules
+abbrev pub library_text : List Parts → Result (List ℕ) Answer
+library_text modules = limited_text (library_spelling modules)
+
+-- module texts, 1,024 at most, are read, and joined to a library text
+abbrev pub library_plan : List (List ℕ) → Plan (List ℕ)
+library_plan sources =
+    if nat_lt MODULE_LIMIT (length sources) then stops (limit Modules (length sources))
+    else then_plan (each module_plan sources) (λ modules. at_once (library_text modules))
+
+-- the plan of what is asked for
+abbrev pub plan_of : Asked → Plan Answer
+plan_of (flat source target) = then_plan (code_plan source) (written_from target (λ code. code))
+plan_of (one source target link) = then_plan (code_plan source) (written_from target (boot_stream link))
+plan_of (asm source target) = then_plan (assembler_plan source) (written_from target (λ text. text))
+plan_of (lib target sources) = then_plan (library_plan sources) (written_from target (λ text. text))
 
 -- the plan that words ask for
 abbrev pub plan_asked : List (List ℕ) → Option (Plan Answer)

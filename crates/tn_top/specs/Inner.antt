@@ -1,3 +1,4 @@
 -- What the functions inside promise one another. A reader of what `run` promises need not read on here.
 pub mod Stages
 pub mod Ends
+pub mod WordReading

@@ -1,12 +1,13 @@
-ghost use Rattle.std.specs.Prelude.{◌≡◌, ◌<◌, ℕ, List, map, string_bytes, None, IfSome};
+ghost use Rattle.std.specs.Prelude.{◌≡◌, ◌<◌, ℕ, List, map, string_bytes, None, IfSome, IfOk};
 ghost use Rattle.tn_text.specs.Counts.{Rose};
 ghost use Rattle.tn_io.specs.Outs.{Printed};
 ghost use Rattle.tn_text.specs.declared.faults.Fault.{Fault};
 ghost use Rattle.tn_text.specs.declared.limits.Limit.{Limit};
-ghost use Rattle.tn_top.specs.CommandWords.{asked, HasLink};
+ghost use Rattle.tn_top.specs.CommandWords.{Asked, asked, HasLink};
+ghost use Rattle.tn_top.specs.Inner.WordReading.{IsFor, asked_by};
 ghost use Rattle.tn_top.specs.OneProcessor.{boot_stream};
 ghost use Rattle.tn_top.specs.Plans.{fault, limit, refused, then_plan};
-ghost use Rattle.tn_top.specs.Commands.{code_plan, written_from, plan_of, plan_asked, answer};
+ghost use Rattle.tn_top.specs.Commands.{code_plan, assembler_plan, library_plan, written_from, plan_of, plan_asked, answer};
 ghost use Rattle.tn_top.specs.Outcomes.{Told, HasCause, NothingFailed, Unless, FilesAfter, PrintedAfter, Writes};
 ghost use Rattle.tn_top.specs.Outcomes.{status_of as answer_status};
 ghost use Rattle.tn_top.specs.ErrLines.{Tells, IsLine};
@@ -15,7 +16,7 @@ ghost use Rattle.tn_top.specs.Inner.Ends.{Ends};
 use crate::endings::write_file;
 use crate::err_lines::{tell_end, tell_usage};
 use crate::one_processor::write_code_stream;
-use crate::reading::read_code;
+use crate::reading::{read_code, read_library_text, read_module_of};
 use crate::refusals::{Refusal, status_of};
 use crate::statuses::Status;
 use crate::words::{Command, command_of};
@@ -69,7 +70,7 @@ pub fn run<S: Store, O: Out>(
     ensures out_goes_on { O.goes_on out.old out.new }
     ensures err_goes_on { O.goes_on err.old err.new }
 {
-    let Some(command) = command_of(words) else {
+    let Some(command) = command_of(alloc, words) else {
         tell_usage(err);
         return Status::Usage;
     };
@@ -78,18 +79,22 @@ pub fn run<S: Store, O: Out>(
     status_of(&ended)
 }
 
-/// Does what a command asks for.
+/// Does what a command asks for, where its words could be read.
 fn perform<S: Store, O: Out>(
     alloc: Global,
-    command: Command,
+    command: Result<Command, Refusal>,
     store: &mut S,
     out: &mut O,
 ) -> Result<(), Refusal>
-    requires { HasLink command }
-    ensures ends { Ends (plan_of command) (S.stored store.old) (S.stored store.new) (O.printed out.old)
-        (O.printed out.new) result }
+    requires link { IfOk command (λ c. HasLink (asked_by c)) }
+    ensures ends { (what : Asked) → IsFor what command
+        → Ends (plan_of what) (S.stored store.old) (S.stored store.new) (O.printed out.old) (O.printed out.new) result }
     ensures goes_on { O.goes_on out.old out.new }
 {
+    let command = match command {
+        Ok(command) => command,
+        Err(refusal) => return Err(refusal),
+    };
     match command {
         Command::Flat { source, target } => flat(alloc, &source, &target, store),
         Command::One {
@@ -97,6 +102,8 @@ fn perform<S: Store, O: Out>(
             target,
             link,
         } => one(alloc, &source, &target, link, store),
+        Command::Asm { source, target } => asm(alloc, &source, &target, store),
+        Command::Lib { target, sources } => lib(alloc, &target, &sources, store),
     }
 }
 
@@ -129,4 +136,32 @@ fn one<S: Store>(
 {
     let code = read_code(alloc, source, store)?;
     write_code_stream(alloc, target, link, code, store)
+}
+
+/// Turns the assembler source in one file into the module text in another.
+fn asm<S: Store>(
+    alloc: Global,
+    source: &FileName,
+    target: &FileName,
+    store: &mut S,
+) -> Result<(), Refusal>
+    ensures { (said : Printed) → Ends (then_plan (assembler_plan source.now) (written_from target.now (λ text. text)))
+        (S.stored store.old) (S.stored store.new) said said result }
+{
+    let text = read_module_of(alloc, source, store)?;
+    write_file(target, &text, store)
+}
+
+/// Joins the module texts in some files to the library text in another.
+fn lib<S: Store>(
+    alloc: Global,
+    target: &FileName,
+    sources: &[FileName],
+    store: &mut S,
+) -> Result<(), Refusal>
+    ensures { (said : Printed) → Ends (then_plan (library_plan sources.now) (written_from target.now (λ text. text)))
+        (S.stored store.old) (S.stored store.new) said said result }
+{
+    let text = read_library_text(alloc, sources, store)?;
+    write_file(target, &text, store)
 }

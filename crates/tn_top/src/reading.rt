@@ -1,14 +1,19 @@
 ghost use Rattle.std.specs.Prelude.{◌≡◌, ◌≤◌, length, vec_len, IfOk};
-ghost use Rattle.tn_top.specs.Plans.{reads, gives};
-ghost use Rattle.tn_top.specs.Commands.{code_in, code_plan};
+ghost use Rattle.tn_top.specs.Plans.{reads, gives, each};
+ghost use Rattle.tn_top.specs.Commands.{code_in, code_plan, module_text_in, assembler_plan, module_plan, library_text, library_plan};
+ghost use Rattle.tn_top.specs.Commands.{limited_text, or_fault};
+ghost use Rattle.tn_modtext.specs.Lines.{spelling};
+ghost use Rattle.tn_modtext.specs.ModuleReading.{module_read};
 ghost use Rattle.tn_top.specs.Inner.Stages.{Staged, Makes};
 
 use crate::flat_code::flat_code;
 use crate::refusals::Refusal;
 use std::alloc::Global;
-use tn_asm::read_flat;
+use tn_asm::{assemble, read_flat};
 use tn_io::{GetFault, Store};
-use tn_text::limits::{CODE_LIMIT, FILE_LIMIT, Limit};
+use tn_modtext::{read_module, write_library, write_module};
+use tn_module::{Library, Module};
+use tn_text::limits::{CODE_LIMIT, FILE_LIMIT, Limit, MODULE_LIMIT};
 use tn_text::{FileName, ReadFault};
 
 /// Reads a file whole.
@@ -59,4 +64,111 @@ fn code_in(alloc: Global, source: &FileName, text: &[u8]) -> Result<Vec<u8>, Ref
         return Err(Refusal::Limit(Limit::Code, code.len() as u64));
     }
     Ok(code)
+}
+
+/// The text of the module that the assembler source in a file stands for.
+pub fn read_module_of<S: Store>(
+    alloc: Global,
+    source: &FileName,
+    store: &mut S,
+) -> Result<Vec<u8>, Refusal>
+    ensures { Staged (λ text. text.items) (assembler_plan source.now) (S.stored store.old) (S.stored store.new) result }
+{
+    let text = read_file(alloc, source, store)?;
+    module_text_in(alloc, source, &text)
+}
+
+/// The text of the module of an assembler source, the text of a file.
+#[tactic(auto, unfolding(crate::specs::Commands::module_text_in))]
+fn module_text_in(alloc: Global, source: &FileName, text: &[u8]) -> Result<Vec<u8>, Refusal>
+    requires { length text.now ≤ FILE_LIMIT }
+    ensures { Makes (λ text. text.items) (module_text_in source.now text.now) result }
+{
+    match assemble(alloc, text) {
+        Ok(read) => module_text(alloc, &read),
+        Err(ReadFault::Fault(first)) => Err(Refusal::Fault(source.copied(), first)),
+        Err(ReadFault::NoMemory) => Err(Refusal::NoMemory),
+    }
+}
+
+/// The text of a module.
+fn module_text(alloc: Global, read: &Module) -> Result<Vec<u8>, Refusal>
+    ensures { Makes (λ text. text.items) (limited_text (spelling read.now)) result }
+{
+    let text = write_module(alloc, read)?;
+    limited(text)
+}
+
+/// The module of the module text in a file.
+fn read_module_text<S: Store>(
+    alloc: Global,
+    source: &FileName,
+    store: &mut S,
+) -> Result<Module, Refusal>
+    ensures { Staged (λ m. m) (module_plan source.now) (S.stored store.old) (S.stored store.new) result }
+{
+    let text = read_file(alloc, source, store)?;
+    module_in(alloc, source, &text)
+}
+
+/// The module of a module text, the text of a file.
+fn module_in(alloc: Global, source: &FileName, text: &[u8]) -> Result<Module, Refusal>
+    requires { length text.now ≤ FILE_LIMIT }
+    ensures { Makes (λ m. m) (or_fault source.now (module_read text.now)) result }
+{
+    match read_module(alloc, text) {
+        Ok(read) => Ok(read),
+        Err(ReadFault::Fault(first)) => Err(Refusal::Fault(source.copied(), first)),
+        Err(ReadFault::NoMemory) => Err(Refusal::NoMemory),
+    }
+}
+
+/// The modules of the module texts in some files.
+fn read_modules<S: Store>(
+    alloc: Global,
+    sources: &[FileName],
+    store: &mut S,
+) -> Result<Vec<Module>, Refusal>
+    ensures { Staged (λ modules. modules.items) (each module_plan sources.now) (S.stored store.old) (S.stored store.new) result }
+{
+    let mut modules = Vec::new(alloc);
+    for source in sources {
+        let read = read_module_text(alloc, source, store)?;
+        modules.push(read)?;
+    }
+    Ok(modules)
+}
+
+/// The text of the library of the module texts in some files. The limit of modules comes before any
+/// is read.
+pub fn read_library_text<S: Store>(
+    alloc: Global,
+    sources: &[FileName],
+    store: &mut S,
+) -> Result<Vec<u8>, Refusal>
+    ensures { Staged (λ text. text.items) (library_plan sources.now) (S.stored store.old) (S.stored store.new) result }
+{
+    if sources.len() > MODULE_LIMIT {
+        return Err(Refusal::Limit(Limit::Modules, sources.len() as u64));
+    }
+    let modules = read_modules(alloc, sources, store)?;
+    library_text(alloc, modules)
+}
+
+/// The text of the library of modules.
+fn library_text(alloc: Global, modules: Vec<Module>) -> Result<Vec<u8>, Refusal>
+    ensures { Makes (λ text. text.items) (library_text modules.items) result }
+{
+    let text = write_library(alloc, &Library { modules })?;
+    limited(text)
+}
+
+/// A text that may be written to a file.
+fn limited(text: Vec<u8>) -> Result<Vec<u8>, Refusal>
+    ensures { Makes (λ text. text.items) (limited_text text.items) result }
+{
+    if text.len() as u64 > FILE_LIMIT {
+        return Err(Refusal::Limit(Limit::File, text.len() as u64));
+    }
+    Ok(text)
 }

@@ -2,7 +2,7 @@ ghost use Rattle.std.specs.Prelude.{◌≡◌};
 ghost use Rattle.tn_top.specs.Refusals.{end_status};
 
 use crate::statuses::Status;
-use std::alloc::AllocError;
+use std::alloc::{AllocError, AllocFailed};
 use tn_text::limits::Limit;
 use tn_text::{Fault, FileName};
 
@@ -37,6 +37,39 @@ pub fn status_of(ended: &Result<(), Refusal>) -> Status
         Err(Refusal::Unprinted) => Status::OutFault,
         Err(Refusal::NotEnabled(_, _, _)) => Status::NotEnabled,
         Err(Refusal::NoMemory) => Status::NoMemory,
+    }
+}
+
+impl From<clap::Error> for Refusal {
+    ghost use Rattle.std.specs.Prelude.{◌≡◌};
+    ghost use Rattle.tn_top.specs.declared.refusals.Refusal.TheVariants.{NoMemory};
+
+    ghost from_gives = { λ _ refusal. refusal ≡ NoMemory };
+
+    fn from(_error: clap::Error) -> Refusal {
+        Refusal::NoMemory
+    }
+}
+
+impl<T: Drop> From<AllocFailed<T>> for Refusal {
+    ghost use Rattle.std.specs.Prelude.{◌≡◌};
+    ghost use Rattle.tn_top.specs.declared.refusals.Refusal.TheVariants.{NoMemory};
+
+    ghost from_gives = { λ _ refusal. refusal ≡ NoMemory };
+
+    fn from(_failed: AllocFailed<T>) -> Refusal {
+        Refusal::NoMemory
+    }
+}
+
+impl From<tn_module::NoMemory> for Refusal {
+    ghost use Rattle.std.specs.Prelude.{◌≡◌};
+    ghost use Rattle.tn_top.specs.declared.refusals.Refusal.TheVariants.{NoMemory};
+
+    ghost from_gives = { λ _ refusal. refusal ≡ NoMemory };
+
+    fn from(_want: tn_module::NoMemory) -> Refusal {
+        Refusal::NoMemory
     }
 }
 

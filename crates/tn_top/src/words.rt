@@ -1,7 +1,15 @@
-ghost use Rattle.std.specs.Prelude.{◌≡◌, ◌<◌, true, false, Some, None, map, string_bytes, IfSome, if◌then◌else◌};
-ghost use Rattle.tn_top.specs.CommandWords.{is_file_word, link_named, flat_asked, one_asked, asked, HasLink};
+ghost use Rattle.std.specs.Prelude.{◌≡◌, ◌<◌, ℕ, List, [], ◌∷◌, true, false, Some, None, map, string_bytes, IfSome, IfOk, IfErr};
+ghost use Rattle.std.specs.Prelude.{IsSomeAnd, is_some, if◌then◌else◌};
+ghost use Rattle.std.specs.List.{list_all};
+ghost use Rattle.std.specs.Option.{option_map};
+ghost use Rattle.tn_top.specs.declared.refusals.Refusal.TheVariants.{NoMemory};
+ghost use Rattle.tn_top.specs.CommandWords.{flat, one, asm, lib, is_file_word, link_named, two_files, one_asked, lib_asked, asked};
+ghost use Rattle.tn_top.specs.Inner.WordReading.{behind, IsReadAs, ReadsAs, asked_by};
 
+use crate::refusals::Refusal;
+use std::alloc::Global;
 use tn_text::FileName;
+use tn_words::{several_matches, three_matches, two_matches};
 
 /// What the words of a command line ask for.
 #[derive(Drop)]
@@ -18,49 +26,199 @@ pub enum Command {
         target: FileName,
         link: u8,
     },
+    /// Turn the assembler source in one file into the module text in another.
+    Asm {
+        source: FileName,
+        target: FileName,
+    },
+    /// Join the module texts in some files to the library text in another.
+    Lib {
+        target: FileName,
+        sources: Vec<FileName>,
+    },
 }
 
 /// The command that the words after the program's name spell, if they spell one. A file's name is
-/// not empty, doesn't begin with `-`, and has at most 255 bytes.
+/// not empty, doesn't begin with `-`, and has at most 255 bytes. Words that spell a command are read
+/// by `clap`, which may want memory.
 #[tactic(auto, unfolding(crate::specs::CommandWords::asked))]
-pub fn command_of(words: &[String]) -> Option<Command>
-    ensures asked { result ≡ asked (map string_bytes words.now) }
-    ensures link { IfSome result HasLink }
+pub fn command_of(alloc: Global, words: &[String]) -> Option<Result<Command, Refusal>>
+    ensures { IsReadAs asked_by (asked (map string_bytes words.now)) result }
 {
-    match words {
-        [command, source, target] => flat_words(command, source, target),
-        [command, source, target, link] => one_words(command, source, target, link),
+    let [command, ..] = words else {
+        return None;
+    };
+    match command.as_str() {
+        "flat" => flat_words(alloc, words),
+        "one" => one_words(alloc, words),
+        "asm" => asm_words(alloc, words),
+        "lib" => lib_words(alloc, words),
         _ => None,
     }
 }
 
 /// The words of `flat IN OUT`.
-fn flat_words(command: &str, source: &str, target: &str) -> Option<Command>
-    ensures asked { result ≡ flat_asked command.now source.now target.now }
-    ensures link { IfSome result HasLink }
+fn flat_words(alloc: Global, words: &[String]) -> Option<Result<Command, Refusal>>
+    ensures { IsReadAs asked_by (option_map (λ f. flat f.0 f.1) (two_files (behind (map string_bytes words.now)))) result }
 {
-    if command != "flat" {
-        return None;
+    match two_file_words(alloc, words)? {
+        Ok((source, target)) => Some(Ok(Command::Flat { source, target })),
+        Err(refusal) => Some(Err(refusal)),
     }
-    let (source, target) = (file_word(source)?, file_word(target)?);
-    Some(Command::Flat { source, target })
 }
 
 /// The words of `one IN OUT K`.
-fn one_words(command: &str, source: &str, target: &str, link: &str) -> Option<Command>
-    ensures asked { result ≡ one_asked command.now source.now target.now link.now }
-    ensures link { IfSome result HasLink }
+fn one_words(alloc: Global, words: &[String]) -> Option<Result<Command, Refusal>>
+    ensures { IsReadAs asked_by (one_asked (behind (map string_bytes words.now))) result }
 {
-    if command != "one" {
+    if !spell_one(words) {
         return None;
     }
-    let (source, target) = (file_word(source)?, file_word(target)?);
-    let link = link_of(link)?;
+    read_one(alloc, words).transpose()
+}
+
+/// The words of `asm IN OUT`.
+fn asm_words(alloc: Global, words: &[String]) -> Option<Result<Command, Refusal>>
+    ensures { IsReadAs asked_by (option_map (λ f. asm f.0 f.1) (two_files (behind (map string_bytes words.now)))) result }
+{
+    match two_file_words(alloc, words)? {
+        Ok((source, target)) => Some(Ok(Command::Asm { source, target })),
+        Err(refusal) => Some(Err(refusal)),
+    }
+}
+
+/// The words of `lib OUT IN..`.
+fn lib_words(alloc: Global, words: &[String]) -> Option<Result<Command, Refusal>>
+    ensures { IsReadAs asked_by (lib_asked (behind (map string_bytes words.now))) result }
+{
+    if !spell_lib(words) {
+        return None;
+    }
+    read_lib(alloc, words).transpose()
+}
+
+/// The two files that the words behind a command's word name.
+fn two_file_words(alloc: Global, words: &[String]) -> Option<Result<(FileName, FileName), Refusal>>
+    ensures { IsReadAs (λ files. files) (two_files (behind (map string_bytes words.now))) result }
+{
+    if !spell_two_files(words) {
+        return None;
+    }
+    read_two(alloc, words).transpose()
+}
+
+/// Whether the words behind a command's word name two files.
+fn spell_two_files(words: &[String]) -> bool
+    ensures { result ≡ is_some (two_files (behind (map string_bytes words.now))) }
+{
+    match words {
+        [_, first, second] => is_file_word(first) && is_file_word(second),
+        _ => false,
+    }
+}
+
+/// Whether the words behind a command's word name two files and a link.
+fn spell_one(words: &[String]) -> bool
+    ensures { result ≡ is_some (one_asked (behind (map string_bytes words.now))) }
+{
+    match words {
+        [_, source, target, link] => {
+            is_file_word(source) && is_file_word(target) && link_of(link).is_some()
+        }
+        _ => false,
+    }
+}
+
+/// Whether the words behind a command's word name two files at least.
+fn spell_lib(words: &[String]) -> bool
+    ensures { result ≡ is_some (lib_asked (behind (map string_bytes words.now))) }
+{
+    match words {
+        [_, target, source, sources @ ..] => {
+            is_file_word(target) && is_file_word(source) && are_file_words(sources)
+        }
+        _ => false,
+    }
+}
+
+/// The two words of two files, as `clap` reads them.
+fn read_two(alloc: Global, words: &[String]) -> Result<Option<(FileName, FileName)>, Refusal>
+    ensures { ReadsAs (λ files. files) (two_files (behind (map string_bytes words.now))) result }
+{
+    let matches = two_matches(alloc, words)?;
+    let (first, second) = (matches.get_str("first"), matches.get_str("second"));
+    Ok(file_of(first).zip(file_of(second)))
+}
+
+/// The three words of `one`, as `clap` reads them.
+fn read_one(alloc: Global, words: &[String]) -> Result<Option<Command>, Refusal>
+    ensures { ReadsAs asked_by (one_asked (behind (map string_bytes words.now))) result }
+{
+    let matches = three_matches(alloc, words)?;
+    let source = matches.get_str("first");
+    let target = matches.get_str("second");
+    let link = matches.get_str("third");
+    Ok(one_command(source, target, link))
+}
+
+/// The command `one` of the words of two files and of a link, where they are there.
+fn one_command(source: Option<&str>, target: Option<&str>, link: Option<&str>) -> Option<Command>
+    ensures { (s t l : List ℕ) → option_map (λ w. w.now) source.entry ≡ Some s → option_map (λ w. w.now) target.entry ≡ Some t
+        → option_map (λ w. w.now) link.entry ≡ Some l → is_file_word s ≡ true → is_file_word t ≡ true
+        → option_map asked_by result ≡ option_map (λ k. one s t k) (link_named l) }
+{
+    let (source, target) = (file_of(source)?, file_of(target)?);
+    let link = link_of(link?)?;
     Some(Command::One {
         source,
         target,
         link,
     })
+}
+
+/// The words of `lib`, as `clap` reads them.
+fn read_lib(alloc: Global, words: &[String]) -> Result<Option<Command>, Refusal>
+    ensures { ReadsAs asked_by (lib_asked (behind (map string_bytes words.now))) result }
+{
+    let matches = several_matches(alloc, words)?;
+    let target = matches.get_str("first");
+    lib_command(alloc, target, matches.get_raw("others"))
+}
+
+/// The command `lib` of the word of a file and those of others, where they are there.
+fn lib_command(
+    alloc: Global,
+    target: Option<&str>,
+    sources: Option<&[&str]>,
+) -> Result<Option<Command>, Refusal>
+    ensures values { (t : List ℕ) (ss : List (List ℕ)) → option_map (λ w. w.now) target.entry ≡ Some t
+        → option_map (λ ws. map (λ w. w.now) ws.now) sources.entry ≡ Some ss → is_file_word t ≡ true → list_all is_file_word ss ≡ true
+        → IfOk result (λ o. IsSomeAnd o (λ c. asked_by c ≡ lib t ss)) }
+    ensures wanting { IfErr result (λ why. why ≡ NoMemory) }
+{
+    let (Some(target), Some(words)) = (file_of(target), sources) else {
+        return Ok(None);
+    };
+    match files_of(alloc, words)? {
+        Some(sources) => Ok(Some(Command::Lib { target, sources })),
+        None => Ok(None),
+    }
+}
+
+/// The files that words name, where each names one.
+fn files_of(alloc: Global, words: &[&str]) -> Result<Option<Vec<FileName>>, Refusal>
+    ensures values { list_all is_file_word (map (λ w. w.now) words.now) ≡ true
+        → IfOk result (λ o. IsSomeAnd o (λ files. files.items ≡ map (λ w. w.now) words.now)) }
+    ensures wanting { IfErr result (λ why. why ≡ NoMemory) }
+{
+    let mut files = Vec::new(alloc);
+    for word in words {
+        match FileName::of(word) {
+            Some(name) => files.push(name)?,
+            None => return Ok(None),
+        }
+    }
+    Ok(Some(files))
 }
 
 /// The link that a word names: `0` to `3`.
@@ -75,12 +233,28 @@ fn link_of(word: &str) -> Option<u8>
     }
 }
 
-/// The file that a word names, if it may name one.
-fn file_word(word: &str) -> Option<FileName>
-    ensures { result ≡ (if is_file_word word.now then Some word.now else None) }
+/// The file that a word names, where there is a word.
+fn file_of(word: Option<&str>) -> Option<FileName>
+    ensures { (text : List ℕ) → option_map (λ w. w.now) word.entry ≡ Some text → is_file_word text ≡ true → result ≡ Some text }
 {
-    if word.as_bytes().first() == Some(&b'-') {
-        return None;
+    FileName::of(word?)
+}
+
+/// Whether words may name files.
+fn are_file_words(words: &[String]) -> bool
+    ensures { result ≡ list_all is_file_word (map string_bytes words.now) }
+{
+    for word in words {
+        if !is_file_word(word) {
+            return false;
+        }
     }
-    FileName::of(word)
+    true
+}
+
+/// Whether a word may name a file.
+fn is_file_word(word: &str) -> bool
+    ensures { result ≡ is_file_word word.now }
+{
+    word.as_bytes().first() != Some(&b'-') && FileName::of(word).is_some()
 }

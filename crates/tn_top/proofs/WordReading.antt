@@ -1,0 +1,297 @@
+-- Words that spell a command, and what is read of them.
+use Rattle.std.proofs.Common.{◌≡◌, ℕ, ◌-◌, ◌<◌, Bool, true, false, not, ◌&&◌, cond, List, [], ◌∷◌, length, get_or, Option, Some, None}
+use Rattle.std.proofs.Common.{is_some, Result, Ok, Err}
+use Rattle.std.proofs.Common.{IfSome, IfOk, IfErr, refl, sym, ap, ◌∙◌, subst, arith, Bor, map, le-leb, codes, ◌≤◌}
+use Rattle.std.specs.Prelude.{nat_le, IsSomeAnd, if◌then◌else◌}
+use Rattle.std.specs.Bool.{◌==◌}
+use Rattle.std.specs.Str.{bytes_eq}
+use Rattle.std.proofs.lemmas.Bool.{leb-true}
+use Rattle.std.proofs.lemmas.Bool.Decides.{nat_tests}
+use Rattle.std.proofs.lemmas.List.Sums.{AllPass-from_list_all}
+use Rattle.tn_text.specs.declared.limits.TheConstants.{FILE_NAME_LIMIT}
+use Rattle.std.proofs.lemmas.Option.{same_Some}
+use Rattle.tn_io.proofs.FileListLaws.{bytes_eq-other}
+use Rattle.tn_modtext.proofs.SplitLaws.{list_all-weaker}
+use Rattle.tn_modtext.proofs.StrictTokens.{list_all-map}
+use Rattle.tn_text.specs.FileNames.{is_file_name}
+use Rattle.std.specs.List.{list_all}
+use Rattle.std.specs.Option.{option_map}
+use Rattle.std.specs.Result.{result_transpose}
+use Rattle.tn_words.specs.PlainWords.{is_plain_word}
+use Rattle.tn_top.specs.declared.refusals.Refusal.{Refusal}
+use Rattle.tn_top.specs.declared.words.Command.{Command}
+use Rattle.tn_top.specs.declared.refusals.Refusal.TheVariants.{Fault, Limit, Unread, Unwritten, Unprinted, NotEnabled, NoMemory}
+use Rattle.tn_top.specs.CommandWords.{Asked, HasLink, flat, one, asm, lib, is_file_word, link_named, two_files, one_asked, lib_asked, asked}
+use Rattle.tn_io.specs.Outs.{Printed}
+use Rattle.tn_io.specs.Stores.{Stored}
+use Rattle.tn_top.specs.Plans.{Answer, Plan}
+use Rattle.tn_top.specs.Inner.Stages.{Unable}
+use Rattle.tn_top.specs.Inner.Ends.{Ends, unable}
+use Rattle.tn_top.specs.Inner.WordReading.{behind, IsReadAs, IsFor, ReadsAs, asked_by}
+
+pub both : (a b : Bool) → (a && b) ≡ true → (a ≡ true) × (b ≡ true)
+both true b h = (refl, h)
+both false b h = absurd cc
+
+-- what was read of words that ask for something
+pub read-transposed : {A B : Type 0} (seen : B → A) (asked : Option A) (r : Result (Option B) Refusal) → is_some asked ≡ true
+    → ReadsAs seen asked r → IsReadAs seen asked (result_transpose r)
+read-transposed seen None r some reads = absurd cc
+read-transposed {A} {B} seen (Some a) (Ok None) some reads = absurd reads.values
+read-transposed seen (Some a) (Ok (Some b)) some reads = reads.values
+read-transposed {A} {B} seen (Some a) (Err why) some reads = subst (λ w. IsReadAs {A = A} {B = B} seen (Some a) (Some (Err w)))
+    (sym reads.wanting) tt
+
+-- words that may name files are plain
+pub plain : (word : List ℕ) → is_file_word word ≡ true → is_plain_word word ≡ true
+plain word h = (both (is_plain_word word) (nat_le (length word) FILE_NAME_LIMIT) h).0
+
+pub all_plain : (words : List (List ℕ)) → list_all is_file_word words ≡ true → list_all is_plain_word words ≡ true
+all_plain words h = list_all-weaker is_file_word is_plain_word plain words h
+
+pub two_plain : (first second : List ℕ) → is_file_word first ≡ true → is_file_word second ≡ true
+    → list_all is_plain_word (first ∷ second ∷ []) ≡ true
+two_plain first second h k = rw (plain first h, plain second k) refl
+
+link_plain : (word : List ℕ) (link : ℕ) → link_named word ≡ Some link → is_plain_word word ≡ true
+unfolding link_named
+link_plain [] link e = absurd cc
+link_plain (c ∷ d ∷ ds) link e = absurd cc
+link_plain (c ∷ []) link e = at (nat_le 48 c && nat_le c 51) refl e
+  where
+    at : (t : Bool) → (nat_le 48 c && nat_le c 51) ≡ t → cond {A = Option ℕ} t (Some (c - 48)) None ≡ Some link → not (c == 45) ≡ true
+    at false t q = absurd cc
+    at true t q = grind (arith, nat_tests, both (nat_le 48 c) (nat_le c 51) t)
+
+pub three_plain : (source target word : List ℕ) (link : ℕ) → is_file_word source ≡ true → is_file_word target ≡ true
+    → link_named word ≡ Some link → list_all is_plain_word (source ∷ target ∷ word ∷ []) ≡ true
+three_plain source target word link h k l = rw (plain source h, plain target k, link_plain word link l) refl
+
+-- such words are names of files
+pub file_named : (word : List ℕ) → is_file_word word ≡ true → is_file_name word ≡ true
+file_named [] h = absurd cc
+file_named (c ∷ cs) h =
+    let tests = both (not (c == 45)) (nat_le (length (c ∷ cs)) FILE_NAME_LIMIT) h in
+    let some : nat_le 1 (length (c ∷ cs)) ≡ true = le-leb 1 (length (c ∷ cs)) (omega arith) in
+    rw (some, tests.1) refl
+
+-- each of such words is
+pub named-at : (words : List (Bor (List ℕ))) (i : ℕ) (d : Bor (List ℕ)) → i < length words
+    → list_all is_file_word (map (λ (w : Bor (List ℕ)). w.now) words) ≡ true → is_file_name (get_or words i d).now ≡ true
+named-at words i d here h =
+    file_named (get_or words i d).now
+    (AllPass-from_list_all (λ (w : Bor (List ℕ)). is_file_word w.now) words
+    (sym (list_all-map is_file_word (λ (w : Bor (List ℕ)). w.now) words) ∙ h) i d here)
+
+-- a word that is a name of a file is taken for one
+pub unnamed : (o : Option (List ℕ)) (word : List ℕ) → is_file_name word ≡ true → o ≡ (if is_file_name word then Some word else None)
+    → o ≡ None → ⊥
+unnamed o word h e n = at (is_file_name word) h (sym n ∙ e)
+  where
+    at : (b : Bool) → b ≡ true → None ≡ (if b then Some word else None) → ⊥
+    at true t q = absurd cc
+    at false t q = absurd cc
+
+pub seen-some : {A B : Type 0} (seen : B → A) (o : Option B) (a : A) → option_map seen o ≡ Some a → IsSomeAnd o (λ b. seen b ≡ a)
+seen-some seen None a e = absurd cc
+seen-some seen (Some b) a e = same_Some (seen b) a e
+
+-- ---- what is read of words, by what they ask for
+
+some-same : {A B : Type 0} (seen : B → A) (a : A) (r : Result (Option B) Refusal) → IfOk r (λ o. IsSomeAnd o (λ b. seen b ≡ a))
+    → IfOk r (λ o. IsSomeAnd o (λ b. a ≡ seen b))
+some-same seen a (Ok None) h = h
+some-same seen a (Ok (Some b)) h = sym h
+some-same seen a (Err why) h = tt
+
+module _ (words : List (List ℕ)) where
+  pub two_reads : (r : Result (Option (List ℕ × List ℕ)) Refusal)
+      → ((command first second : List ℕ) → words ≡ command ∷ first ∷ second ∷ [] → is_file_word first ≡ true
+      → is_file_word second ≡ true → IfOk r (λ o. IsSomeAnd o (λ files. files ≡ (first, second))))
+      → IfErr r (λ why. why ≡ NoMemory) → ReadsAs (λ files. files) (two_files (behind words)) r
+  two_reads r ok err = record { values = at words refl; wanting = err }
+    where
+      by : (command first second : List ℕ) → words ≡ command ∷ first ∷ second ∷ [] → (t : Bool)
+          → (is_file_word first && is_file_word second) ≡ t
+          → IfSome (cond {A = Option (List ℕ × List ℕ)} t (Some (first, second)) None)
+              (λ what. IfOk r (λ o. IsSomeAnd o (λ files. what ≡ files)))
+      by command first second e false t = tt
+      by command first second e true t =
+          let files = both (is_file_word first) (is_file_word second) t in
+          some-same (λ files. files) (first, second) r (ok command first second e files.0 files.1)
+
+      at : (ws : List (List ℕ)) → words ≡ ws → IfSome (two_files (behind ws)) (λ what. IfOk r (λ o. IsSomeAnd o (λ files. what ≡ files)))
+      at [] e = tt
+      at (a ∷ []) e = tt
+      at (a ∷ b ∷ []) e = tt
+      at (a ∷ b ∷ c ∷ []) e = by a b c e (is_file_word b && is_file_word c) refl
+      at (a ∷ b ∷ c ∷ d ∷ ds) e = tt
+
+  pub one_reads : (r : Result (Option Command) Refusal)
+      → ((command source target word : List ℕ) (link : ℕ) → words ≡ command ∷ source ∷ target ∷ word ∷ []
+      → is_file_word source ≡ true → is_file_word target ≡ true → link_named word ≡ Some link
+      → IfOk r (λ o. IsSomeAnd o (λ c. asked_by c ≡ one source target link)))
+      → IfErr r (λ why. why ≡ NoMemory) → ReadsAs asked_by (one_asked (behind words)) r
+  one_reads r ok err = record { values = at words refl; wanting = err }
+    where
+      link_is : (command source target word : List ℕ) → words ≡ command ∷ source ∷ target ∷ word ∷ [] → is_file_word source ≡ true
+          → is_file_word target ≡ true → (o : Option ℕ) → link_named word ≡ o
+          → IfSome (option_map (λ k. one source target k) o) (λ what. IfOk r (λ o. IsSomeAnd o (λ c. what ≡ asked_by c)))
+      link_is command source target word e h k None q = tt
+      link_is command source target word e h k (Some link) q =
+          some-same asked_by (one source target link) r (ok command source target word link e h k q)
+
+      by : (command source target word : List ℕ) → words ≡ command ∷ source ∷ target ∷ word ∷ [] → (t : Bool)
+          → (is_file_word source && is_file_word target) ≡ t
+          → IfSome (cond {A = Option Asked} t (option_map (λ k. one source target k) (link_named word)) None)
+          (λ what. IfOk r (λ o. IsSomeAnd o (λ c. what ≡ asked_by c)))
+      by command source target word e false t = tt
+      by command source target word e true t =
+          let files = both (is_file_word source) (is_file_word target) t in
+          link_is command source target word e files.0 files.1 (link_named word) refl
+
+      at : (ws : List (List ℕ)) → words ≡ ws → IfSome (one_asked (behind ws)) (λ what. IfOk r (λ o. IsSomeAnd o (λ c. what ≡ asked_by c)))
+      at [] e = tt
+      at (a ∷ []) e = tt
+      at (a ∷ b ∷ []) e = tt
+      at (a ∷ b ∷ c ∷ []) e = tt
+      at (a ∷ b ∷ c ∷ d ∷ []) e = by a b c d e (is_file_word b && is_file_word c) refl
+      at (a ∷ b ∷ c ∷ d ∷ f ∷ fs) e = tt
+
+  pub lib_reads : (r : Result (Option Command) Refusal)
+      → ((command target source : List ℕ) (sources : List (List ℕ)) → words ≡ command ∷ target ∷ source ∷ sources
+      → list_all is_file_word (target ∷ source ∷ sources) ≡ true
+      → IfOk r (λ o. IsSomeAnd o (λ c. asked_by c ≡ lib target (source ∷ sources))))
+      → IfErr r (λ why. why ≡ NoMemory) → ReadsAs asked_by (lib_asked (behind words)) r
+  lib_reads r ok err = record { values = at words refl; wanting = err }
+    where
+      by : (command target source : List ℕ) (sources : List (List ℕ)) → words ≡ command ∷ target ∷ source ∷ sources → (t : Bool)
+          → list_all is_file_word (target ∷ source ∷ sources) ≡ t
+          → IfSome (cond {A = Option Asked} t (Some (lib target (source ∷ sources))) None)
+          (λ what. IfOk r (λ o. IsSomeAnd o (λ c. what ≡ asked_by c)))
+      by command target source sources e false t = tt
+      by command target source sources e true t =
+          some-same asked_by (lib target (source ∷ sources)) r (ok command target source sources e t)
+
+      at : (ws : List (List ℕ)) → words ≡ ws → IfSome (lib_asked (behind ws)) (λ what. IfOk r (λ o. IsSomeAnd o (λ c. what ≡ asked_by c)))
+      at [] e = tt
+      at (a ∷ []) e = tt
+      at (a ∷ b ∷ []) e = tt
+      at (a ∷ b ∷ c ∷ cs) e = by a b c cs e (list_all is_file_word (b ∷ c ∷ cs)) refl
+
+-- ---- tests of all words
+
+-- where one word fails, not all pass
+pub fails : {X : Type 0} (p : X → Bool) (xs : List X) (i : ℕ) (x : X) → i < length xs → x ≡ get_or xs i x → p x ≡ false
+    → list_all p xs ≡ false
+fails p xs i x here is fail = at (list_all p xs) refl
+  where
+    at : (b : Bool) → list_all p xs ≡ b → list_all p xs ≡ false
+    at false e = e
+    at true e =
+        let yes : p (get_or xs i x) ≡ true = AllPass-from_list_all p xs e i x here in
+        let both : true ≡ false = sym yes ∙ (ap p (sym is) ∙ fail) in
+        absurd cc
+
+-- ---- words of no command
+
+pub unasked : {X : Type 0} (f : X → List ℕ) (words : List X) (first : X) (command : List ℕ) → 1 ≤ length words
+    → first ≡ get_or words 0 first → command ≡ f first → (command ≡ codes "flat" → ⊥) → (command ≡ codes "one" → ⊥)
+    → (command ≡ codes "asm" → ⊥)
+    → (command ≡ codes "lib" → ⊥) → asked (map f words) ≡ None
+unfolding asked
+unasked f [] first command some is same no_flat no_one no_asm no_lib = absurd (omega arith)
+unasked f (word ∷ words) first command some is same no_flat no_one no_asm no_lib =
+    let named : command ≡ f word = same ∙ ap f is in
+    rw (← named, bytes_eq-other command (codes "flat") no_flat, bytes_eq-other command (codes "one") no_one, bytes_eq-other command
+        (codes "asm") no_asm, bytes_eq-other command (codes "lib") no_lib) refl
+
+-- ---- links
+
+either : (b : Bool) (x y : Option Asked) → IfSome x HasLink → IfSome y HasLink → IfSome (cond b x y) HasLink
+either true x y h k = h
+either false x y h k = k
+
+asm-links : (files : Option (List ℕ × List ℕ)) → IfSome (option_map (λ f. asm f.0 f.1) files) HasLink
+asm-links None = tt
+asm-links (Some f) = tt
+
+flat-links : (files : Option (List ℕ × List ℕ)) → IfSome (option_map (λ f. flat f.0 f.1) files) HasLink
+flat-links None = tt
+flat-links (Some f) = tt
+
+link-below : (source target word : List ℕ) → IfSome (option_map (λ k. one source target k) (link_named word)) HasLink
+unfolding link_named
+link-below source target [] = tt
+link-below source target (c ∷ d ∷ ds) = tt
+link-below source target (c ∷ []) = at (nat_le 48 c && nat_le c 51) refl
+  where
+    at : (t : Bool) → (nat_le 48 c && nat_le c 51) ≡ t
+        → IfSome (option_map (λ k. one source target k) (cond {A = Option ℕ} t (Some (c - 48)) None)) HasLink
+    at false t = tt
+    at true t =
+        let tests = both (nat_le 48 c) (nat_le c 51) t in
+        let high : c ≤ 51 = leb-true c 51 tests.1 in
+        omega (arith, high)
+
+one-links : (words : List (List ℕ)) → IfSome (one_asked words) HasLink
+one-links [] = tt
+one-links (a ∷ []) = tt
+one-links (a ∷ b ∷ []) = tt
+one-links (a ∷ b ∷ c ∷ []) =
+    either (is_file_word a && is_file_word b) (option_map (λ k. one a b k) (link_named c)) None (link-below a b c) tt
+one-links (a ∷ b ∷ c ∷ d ∷ ds) = tt
+
+lib-links : (words : List (List ℕ)) → IfSome (lib_asked words) HasLink
+lib-links [] = tt
+lib-links (a ∷ []) = tt
+lib-links (a ∷ b ∷ bs) = either (list_all is_file_word (a ∷ b ∷ bs)) (Some (lib a (b ∷ bs))) None tt tt
+
+-- what is asked for has a link below 4
+pub asked-links : (words : List (List ℕ)) → IfSome (asked words) HasLink
+unfolding asked
+asked-links [] = tt
+asked-links (command ∷ words) =
+    either (bytes_eq command (codes "flat")) (option_map (λ f. flat f.0 f.1) (two_files words)) _ (flat-links (two_files words))
+    (either (bytes_eq command (codes "one")) (one_asked words) _ (one-links words)
+    (either (bytes_eq command (codes "asm")) (option_map (λ f. asm f.0 f.1) (two_files words)) _ (asm-links (two_files words))
+    (either (bytes_eq command (codes "lib")) (lib_asked words) None (lib-links words) tt)))
+
+-- ---- what was read is what is asked for
+
+pub record IsAskedFor (asked : Option Asked) (r : Result Command Refusal) : Type 0 where
+  pub what : Asked
+  pub is : asked ≡ Some what
+  pub reads : IsFor what r
+
+pub read-some : (asked : Option Asked) (r : Result Command Refusal) → IsReadAs asked_by asked (Some r) → IsAskedFor asked r
+read-some None r h = absurd h
+read-some (Some a) (Ok c) h = record { what = a; is = refl; reads = h }
+read-some (Some a) (Err NoMemory) h = record { what = a; is = refl; reads = tt }
+read-some (Some a) (Err (Fault file first)) h = absurd h
+read-some (Some a) (Err (Limit word count)) h = absurd h
+read-some (Some a) (Err (Unread file)) h = absurd h
+read-some (Some a) (Err (Unwritten file)) h = absurd h
+read-some (Some a) (Err Unprinted) h = absurd h
+read-some (Some a) (Err (NotEnabled file line tokens)) h = absurd h
+
+pub read-link : (asked : Option Asked) (r : Result Command Refusal) → IfSome asked HasLink → IsReadAs asked_by asked (Some r)
+    → IfOk r (λ c. HasLink (asked_by c))
+read-link None (Ok c) h k = absurd k
+read-link (Some a) (Ok c) h k = subst HasLink k h
+read-link asked (Err why) h k = tt
+
+-- where there was no memory for the words, nothing was done
+pub ends-wanted : {T : Type 0} (what : Asked) (r : Result Command Refusal) (why : Refusal) → r ≡ Err why → IsFor what r
+    → (plan : Plan Answer) (stored : Stored) (printed : Printed) → Ends {T = T} plan stored stored printed printed (Err why)
+unfolding Unable
+ends-wanted what (Ok c) why e h plan stored printed = absurd cc
+ends-wanted {T} what (Err NoMemory) why e h plan stored printed =
+    let same : NoMemory ≡ why = cc in
+    subst (λ w. Ends {T = T} plan stored stored printed printed (Err w)) same (unable NoMemory tt refl refl)
+ends-wanted what (Err (Fault file first)) why e h plan stored printed = absurd h
+ends-wanted what (Err (Limit word count)) why e h plan stored printed = absurd h
+ends-wanted what (Err (Unread file)) why e h plan stored printed = absurd h
+ends-wanted what (Err (Unwritten file)) why e h plan stored printed = absurd h
+ends-wanted what (Err Unprinted) why e h plan stored printed = absurd h
+ends-wanted what (Err (NotEnabled file line tokens)) why e h plan stored printed = absurd h

@@ -1,0 +1,11 @@
+use Rattle.std.proofs.Common.{Option, None, string_bytes, sym, subst}
+use Rattle.tn_top.specs.CommandWords.{Asked}
+use Rattle.tn_top.specs.Inner.WordReading.{IsReadAs, asked_by}
+use Rattle.tn_top.proofs.WordReading.{unasked}
+use Rattle.tn_top.proofs.words.command_of.Goals as goal
+
+pub returns-in_default-as_str : goal.returns-in_default-as_str
+returns-in_default-as_str c =
+    subst (λ (o : Option Asked). IsReadAs asked_by o None)
+    (sym (unasked string_bytes c.args.words.now c.command-item.result c.as_str.result.now c.in-len1-up.len_at_least c.command-item.is
+    c.as_str.ensures.value c.in_default-as_str.not-flat c.in_default-as_str.not-one c.in_default-as_str.not-asm c.in_default-as_str.not-lib)) tt
