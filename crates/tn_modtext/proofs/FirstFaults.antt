@@ -1,5 +1,6 @@
 -- The first fault of a module, found along its places.
-use Rattle.std.proofs.Common.{◌≡◌, ℕ, zero, suc, ◌+◌, ◌<◌, ◌≤◌, ◌⊎◌, inl, inr, List, length, Option, Some, None, refl, sym, ap, ◌∙◌, subst, arith}
+use Rattle.std.proofs.Common.{◌≡◌, ℕ, zero, suc, ◌+◌, ◌<◌, ◌≤◌, ◌⊎◌, inl, inr, List, length, Option, Some, None, refl, sym, ap, ◌∙◌}
+use Rattle.std.proofs.Common.{subst, arith}
 use Rattle.std.specs.Prelude.{option_map, option_and_then}
 use Rattle.std.specs.Option.{option_or}
 use Rattle.std.proofs.lemmas.Bool.{cases_lt}
@@ -115,22 +116,28 @@ pub first_found : (m : Parts) → IsFound m (first_fault m)
 unfolding first_fault
 first_found m = imports (first_among m place.Import (length m.imports)) refl
   where
-    cells : AreSound place.Import m → AreSound place.Export m → AreSound place.Item m → (o : Option ModuleFault) → (celled m) ≡ o → IsFound m o
+    cells : AreSound place.Import m → AreSound place.Export m → AreSound place.Item m → (o : Option ModuleFault) → (celled m) ≡ o
+        → IsFound m o
     cells a b c (Some f) is = first_cell m a b c f (some_among m place.Cell (length m.cells) f is)
     cells a b c None is = all_sound m a b c (cells_sound m (length m.cells) (omega arith) (none_among m place.Cell (length m.cells) is))
 
-    items : AreSound place.Import m → AreSound place.Export m → (o : Option ModuleFault) → (coded m) ≡ o → IsFound m (option_or o (celled m))
+    items : AreSound place.Import m → AreSound place.Export m → (o : Option ModuleFault) → (coded m) ≡ o → IsFound m
+        (option_or o (celled m))
     items a b (Some f) is = first_item m a b f (some_among m place.Item (length m.items) f is)
-    items a b None is = cells a b (items_sound m (length m.items) (omega arith) (none_among m place.Item (length m.items) is)) (celled m) refl
+    items a b None is = cells a b (items_sound m (length m.items) (omega arith) (none_among m place.Item (length m.items) is))
+        (celled m) refl
 
-    exports : AreSound place.Import m → (o : Option ModuleFault) → (exported m) ≡ o → IsFound m (option_or o (option_or (coded m) (celled m)))
+    exports : AreSound place.Import m → (o : Option ModuleFault) → (exported m) ≡ o → IsFound m
+        (option_or o (option_or (coded m) (celled m)))
     exports a (Some f) is = first_export m a f (some_among m place.Export (length m.exports) f is)
-    exports a None is = items a (exports_sound m (length m.exports) (omega arith) (none_among m place.Export (length m.exports) is)) (coded m) refl
+    exports a None is = items a (exports_sound m (length m.exports) (omega arith) (none_among m place.Export (length m.exports) is))
+        (coded m) refl
 
     imports : (o : Option ModuleFault) → first_among m place.Import (length m.imports) ≡ o
         → IsFound m (option_or o (option_or (exported m) (option_or (coded m) (celled m))))
     imports (Some f) is = first_import m f (some_among m place.Import (length m.imports) f is)
-    imports None is = exports (imports_sound m (length m.imports) (omega arith) (none_among m place.Import (length m.imports) is)) (exported m) refl
+    imports None is = exports (imports_sound m (length m.imports) (omega arith) (none_among m place.Import (length m.imports) is))
+        (exported m) refl
 
 -- a valid module has no fault, and the fault of another is found
 pub none-valid : (m : Parts) → IsValid m → first_fault m ≡ None

@@ -114,7 +114,7 @@ module _ (words : List (List ℕ)) where
       by : (command first second : List ℕ) → words ≡ command ∷ first ∷ second ∷ [] → (t : Bool)
           → (is_file_word first && is_file_word second) ≡ t
           → IfSome (cond {A = Option (List ℕ × List ℕ)} t (Some (first, second)) None)
-              (λ what. IfOk r (λ o. IsSomeAnd o (λ files. what ≡ files)))
+          (λ what. IfOk r (λ o. IsSomeAnd o (λ files. what ≡ files)))
       by command first second e false t = tt
       by command first second e true t =
           let files = both (is_file_word first) (is_file_word second) t in
@@ -203,8 +203,14 @@ unfolding asked
 unasked f [] first command some is same no_flat no_one no_asm no_lib = absurd (omega arith)
 unasked f (word ∷ words) first command some is same no_flat no_one no_asm no_lib =
     let named : command ≡ f word = same ∙ ap f is in
-    rw (← named, bytes_eq-other command (codes "flat") no_flat, bytes_eq-other command (codes "one") no_one, bytes_eq-other command
-        (codes "asm") no_asm, bytes_eq-other command (codes "lib") no_lib) refl
+    rw (
+      ← named,
+      bytes_eq-other command (codes "flat") no_flat,
+      bytes_eq-other command (codes "one") no_one,
+      bytes_eq-other command
+          (codes "asm") no_asm,
+      bytes_eq-other command (codes "lib") no_lib,
+    ) refl
 
 -- ---- links
 

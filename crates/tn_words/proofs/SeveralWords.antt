@@ -25,8 +25,14 @@ built_rules = (built several).top.rules
 
 -- where the walk stands behind the first word and some others
 abbrev first_row : Text → Row
-first_row first = record { id = codes "first"; values = first ∷ []; count = None; source = Some CommandLine; reading = reading_by
-    (filled (required (codes "first"))) }
+first_row first = record {
+  id = codes "first";
+  values = first ∷ [];
+  count = None;
+  source = Some CommandLine;
+  reading = reading_by
+      (filled (required (codes "first")));
+}
 
 abbrev behind : Text → Text → List Text → Walk
 behind first second more = record {
@@ -95,7 +101,7 @@ built_shape = (built several).top
 
 start_passes : (first second : Text) → is_plain_word first ≡ true → is_plain_word second ≡ true
     → (turn_passes built_shape [] (walk_from nothing_held) first && turn_passes built_shape []
-        (walked built_rules [] (walk_from nothing_held) first) second) ≡ true
+    (walked built_rules [] (walk_from nothing_held) first) second) ≡ true
 unfolding clap_on_literals
 start_passes [] second h k = absurd cc
 start_passes (c ∷ cs) [] h k = absurd cc
@@ -114,7 +120,7 @@ rest_passes first second more [] h = refl
 rest_passes first second more (word ∷ rest) h =
     let parts = both (is_plain_word word) (list_all is_plain_word rest) h in
     rw (one_passes first second more word parts.0, one_more first second more word parts.0)
-        (rest_passes first second (more ++ word ∷ []) rest parts.1)
+    (rest_passes first second (more ++ word ∷ []) rest parts.1)
 
 abbrev others_built : Rule
 others_built = with_index 2 (filled others)
@@ -139,12 +145,12 @@ level first second rest h few =
     let two = both (is_plain_word second) (list_all is_plain_word rest) one.1 in
     let begun = both (turn_passes built_shape [] (walk_from nothing_held) first) _ (start_passes first second one.0 two.0) in
     rw (begun.0, begun.1, start first second one.0 two.0, rest_passes first second [] rest two.1, walk_is first second rest h)
-        (settles first second rest few)
+    (settles first second rest few)
 
 pub taken : (command first second : Text) (rest : List Text) → list_all is_plain_word (first ∷ second ∷ rest) ≡ true
     → length (second ∷ rest) ≤ usize_max → takes several (command ∷ first ∷ second ∷ rest) ≡ true
 taken command first second rest h few =
     ap (λ (w : Walk). entered_passes (built several) w.stopped
     && level_passes built_shape [] nothing_held (first ∷ second ∷ rest) (is_some (entered (built several) w.stopped)))
-        (walk_is first second rest h)
+    (walk_is first second rest h)
     ∙ level first second rest h few

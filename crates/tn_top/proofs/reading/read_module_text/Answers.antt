@@ -21,7 +21,7 @@ returns-in_err-text g c =
     let after = g.S.Store.stored c.read_file.new.store in
     of-error (Staged same (module_plan source) before after) c.from_residual.result c.in_err-text.field-0.0 c.from_residual.ensures.1
     (staged-stopped seen same (λ text. at_once (or_fault source (module_read text)))
-        (reads source gives) before after c.in_err-text.field-0.0
+    (reads source gives) before after c.in_err-text.field-0.0
     c.in_err-text.ensures.staged)
 
 pub returns : goal.returns
@@ -31,7 +31,7 @@ returns g c =
     let read = g.S.Store.stored c.read_file.new.store in
     let text = c.in_ok-text.text in
     staged-then seen same (λ text. at_once (or_fault source (module_read text)))
-        (reads source gives) before read read text c.module_in.result
+    (reads source gives) before read read text c.module_in.result
     c.in_ok-text.ensures.staged
     (staged-made same (or_fault source (module_read text.items)) read c.module_in.result
     (subst (λ t. Makes same (or_fault source (module_read t)) c.module_in.result) c.deref.ensures.value c.module_in.ensures))

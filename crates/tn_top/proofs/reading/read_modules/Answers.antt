@@ -31,7 +31,7 @@ returns-in_err-read g c =
     of-error (Staged all_seen (each module_plan c.args.sources.now) before after) c.from_residual.result c.in_err-read.field-0.0
     c.from_residual.ensures.1
     (walked-stopped same module_plan c.args.sources.now
-        (drop (c.loop-source.source-index + 1) c.args.sources.now) c.source-item.result so_far
+    (drop (c.loop-source.source-index + 1) c.args.sources.now) c.source-item.result so_far
     before now after
     (next c.args.sources.now c.loop-source.source-index c.source-item.result so_far before now c.loop-source-test.true c.source-item.is
     c.loop-source.invariant) all_seen c.in_err-read.field-0.0 c.in_err-read.ensures)

@@ -7,4 +7,4 @@ use Rattle.tn_top.proofs.reading.read_modules.Given as goal
 abbrev pub invariant-loop-source : goal.invariant-loop-source
 invariant-loop-source g l =
     Walked module_plan l.sources (drop l.source-index l.sources) l.modules.items (g.S.Store.stored l.initial.store)
-        (g.S.Store.stored l.store)
+    (g.S.Store.stored l.store)

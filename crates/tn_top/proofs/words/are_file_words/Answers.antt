@@ -10,12 +10,12 @@ pub returns-then-not-is_file_word : goal.returns-then-not-is_file_word
 returns-then-not-is_file_word c =
     sym (list_all-map is_file_word string_bytes c.args.words.now
     ∙ fails (λ (w : String Global). is_file_word
-        (string_bytes w)) c.args.words.now c.loop-word.word-index c.word-item.result c.loop-word-test.true
+    (string_bytes w)) c.args.words.now c.loop-word.word-index c.word-item.result c.loop-word-test.true
     c.word-item.is (rw c.deref.ensures at (sym c.is_file_word.ensures ∙ c.if-not-is_file_word.true)))
 
 pub returns : goal.returns
 returns c =
     let all : take c.loop-word.word-index c.args.words.now ≡ c.args.words.now = take_all c.loop-word.word-index c.args.words.now
-        (omega arith) in
+    (omega arith) in
     sym (list_all-map is_file_word string_bytes c.args.words.now
     ∙ (ap (list_all (λ (w : String Global). is_file_word (string_bytes w))) (sym all) ∙ c.loop-word.invariant))

@@ -14,5 +14,5 @@ returns-in-None-clause-values c h =
 pub returns-clause-values : goal.returns-clause-values
 returns-clause-values c h =
     let all : take c.loop-word.word-index c.args.words.now ≡ c.args.words.now = take_all c.loop-word.word-index c.args.words.now
-        (omega arith) in
+    (omega arith) in
     c.loop-word.invariant ∙ ap (map (λ (w : Bor (List ℕ)). w.now)) all

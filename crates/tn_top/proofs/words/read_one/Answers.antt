@@ -11,5 +11,5 @@ returns c =
     let told = c.in_ok-matches.ensures.values command source target word same (three_plain source target word link f s l) in
     seen-some asked_by c.one_command.result (one source target link)
     (c.one_command.ensures source target word (c.get_str-source.ensures ∙ told.0) (c.get_str-target.ensures ∙ told.1)
-        (c.get_str-link.ensures ∙ told.2) f s
+    (c.get_str-link.ensures ∙ told.2) f s
     ∙ ap (option_map (λ k. one source target k)) l)) tt

@@ -15,7 +15,7 @@ returns c =
     let others_rule : rule_of c.num_args-others.result ≡ others = search (rules, range_is) in
     let command_is : app_of c.in_ok-command.command ≡ several =
     c.in_ok-command.ensures.shape (search rules) ∙ ap₂ with_rule
-        (c.in_ok-arg.ensures.shape (search rules) ∙ ap₂ with_rule c.new-3.ensures.app first_rule) others_rule in
+    (c.in_ok-arg.ensures.shape (search rules) ∙ ap₂ with_rule c.new-3.ensures.app first_rule) others_rule in
     let parse = c.try_get_matches_from in
     record {
       values = λ command first second rest same h. IfOk-weaker parse.result _ _ (λ m has.
