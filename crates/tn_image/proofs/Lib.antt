@@ -1,0 +1,9 @@
+pub mod Laws
+pub mod RegionTests
+pub mod Passing
+pub mod Entries
+pub mod Loadable
+pub mod OneAnswer
+pub mod Building
+pub mod Premises
+pub mod WorkedImages

@@ -1,0 +1,4 @@
+pub mod Regions
+pub mod Checks
+pub mod Images
+pub mod PlainImages
