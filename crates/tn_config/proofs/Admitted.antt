@@ -218,7 +218,7 @@ lines_rise (line ∷ ls) n said (front, below, one, more, is) =
     at (telling s f e) r = subst (λ front. Rises n (front ++ below)) (sym e) (omega arith, r)
 
 -- a line says one thing at most
-lines_count : (ls : List (List ℕ)) (n : ℕ) (said : List (ℕ × Statement)) → LinesSay n ls said → length said ≤ length ls
+pub lines_count : (ls : List (List ℕ)) (n : ℕ) (said : List (ℕ × Statement)) → LinesSay n ls said → length said ≤ length ls
 unfolding LinesSay
 lines_count [] n said e = rw e (omega arith)
 lines_count (line ∷ ls) n said (front, below, one, more, is) =
@@ -307,7 +307,7 @@ wires_count (AHost h ∷ parts) = let rest = wires_count parts in omega arith
 wires_count (AWire w ∷ parts) = let rest = wires_count parts in omega arith
 
 -- a line has a byte at least
-lines_few : (text : List ℕ) → length (lines text) ≤ length text
+pub lines_few : (text : List ℕ) → length (lines text) ≤ length text
 lines_few [] = omega arith
 lines_few (x ∷ xs) =
     at (is_feed x) (slice_split is_feed xs) (omega (arith, length-slice_split is_feed xs)) (lines_few xs)

@@ -13,5 +13,6 @@ pub mod TextLaws
 pub mod NumberLaws
 pub mod Fits
 pub mod Admitted
+pub mod FileLines
 pub mod ReadBack
 pub mod WriterLaws

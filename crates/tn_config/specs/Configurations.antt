@@ -1,5 +1,6 @@
 -- Configurations, as contracts see them.
-use Rattle.std.specs.Prelude.{ℕ, List, map, Option}
+use Rattle.std.specs.Prelude.{ℕ, ◌+◌, List, map, length, Option}
+use Rattle.std.specs.List.{flat_map}
 use Rattle.tn_config.specs.declared.configurations.Block.{Block}
 use Rattle.tn_config.specs.declared.configurations.BlockLines.{BlockLines}
 use Rattle.tn_config.specs.declared.configurations.HostLine.{HostLine}
@@ -47,3 +48,7 @@ block_of b =
 
 abbrev pub config_of : Config → ConfigState
 config_of c = record { blocks = map block_of c.blocks.items; host = c.host; wires = c.wires.items; lines = c.lines }
+
+-- how many lines name files of modules and of libraries
+abbrev pub file_lines : ConfigState → ℕ
+file_lines c = length (flat_map (λ b. b.modules) c.blocks) + length (flat_map (λ b. b.libraries) c.blocks)

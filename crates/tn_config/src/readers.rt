@@ -5,7 +5,7 @@ ghost use Rattle.tn_text.specs.declared.limits.TheConstants.{PROCESSOR_LIMIT};
 ghost use Rattle.tn_text.specs.declared.faults.ReadFault.TheVariants as read;
 ghost use Rattle.tn_text.specs.Reading.{Gives, IsReading, placed};
 ghost use Rattle.tn_net.specs.Lines.{IsAdmitted};
-ghost use Rattle.tn_config.specs.Configurations.{ConfigState, config_of};
+ghost use Rattle.tn_config.specs.Configurations.{ConfigState, config_of, file_lines};
 ghost use Rattle.tn_config.specs.Networks.{described};
 ghost use Rattle.tn_config.specs.Writable.{IsWritable};
 ghost use Rattle.tn_config.specs.Parts.{IsConfig};
@@ -58,9 +58,11 @@ pub fn read_config(alloc: Global, text: &[u8]) -> Result<Config, ReadFault>
     ensures only { (c : ConfigState) → IsConfig text.now c → Gives config_of result (Ok c) }
     ensures fault { (fault : _) → result ≡ Err (read.Fault fault) → IsConfigFault text.now fault }
 
-    // And what was read may be written, and its network checked:
+    // And what was read may be written, and its network checked; fewer lines name files than the
+    // text has bytes:
     ensures writable { IfOk result (λ found. IsWritable (config_of found)) }
     ensures admitted { IfOk result (λ found. length found.blocks.items ≤ PROCESSOR_LIMIT → IsAdmitted (described (config_of found))) }
+    ensures files { IfOk result (λ found. file_lines (config_of found) ≤ length text.now - 1) }
 {
     read_all(alloc, text)
 }

@@ -18,3 +18,4 @@ pub mod LibraryLaws
 pub mod WritingLaws
 pub mod FirstFaults
 pub mod ModuleReading
+pub mod LibraryReading

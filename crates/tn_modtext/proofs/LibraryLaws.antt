@@ -124,7 +124,7 @@ module _ (text : List ℕ) where
   of_fault fault (inr (ms, spelled, wrong)) =
       inr (record { modules = ms; have_spelling = spelled.0; spelled = spelled.1; first = wrong })
 
-  spells : (ms : List Parts) → IsLibraryText text ms → AreSpelled ms
+  pub spells : (ms : List Parts) → IsLibraryText text ms → AreSpelled ms
   spells ms is = (
     All-from_recursion HasSpelling ms
         (all_spelled ms (recursion_from_All IsValid ms is.valid) (recursion_from_All IsInRange ms is.ranges)),

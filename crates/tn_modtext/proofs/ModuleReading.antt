@@ -1,14 +1,13 @@
 -- The answer of the reader is what reading the text gives.
-use Rattle.std.proofs.Common.{◌≡◌, ℕ, ◌⊎◌, inl, inr, List, Option, Some, None, Result, Ok, Err, IfOk, refl, sym, ap, ◌∙◌}
+use Rattle.std.proofs.Common.{◌≡◌, ℕ, inl, inr, List, Result, Ok, Err, refl, sym, ap, ◌∙◌}
 use Rattle.tn_text.specs.declared.faults.Fault.{Fault}
 use Rattle.tn_text.specs.declared.faults.ReadFault.{ReadFault}
 use Rattle.tn_text.specs.declared.faults.ReadFault.TheVariants as read
 use Rattle.tn_text.specs.Reading.{Gives, result_then}
 use Rattle.tn_module.specs.Modules.{Parts}
-use Rattle.tn_modtext.specs.ModuleTexts.{fault_in, IsModuleText, IsFaultOfModule, IsModuleTextFault}
+use Rattle.tn_modtext.specs.ModuleTexts.{IsModuleText, IsModuleTextFault}
 use Rattle.tn_modtext.specs.Readers.{Reads}
 use Rattle.tn_modtext.specs.ModuleReading.{module_or, parts_checked, module_read}
-use Rattle.tn_modtext.specs.Inner.Drafts.{parts_read}
 use Rattle.tn_modtext.proofs.ReadLaws.{parts_reading}
 use Rattle.tn_modtext.proofs.ModuleLaws.{spelled-valid}
 use Rattle.tn_modtext.proofs.FirstFaults.{none-valid, some-first}

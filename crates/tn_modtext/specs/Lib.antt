@@ -12,4 +12,5 @@ pub mod LibraryLines
 pub mod LibraryFaults
 pub mod Libraries
 pub mod ModuleReading
+pub mod LibraryReading
 pub mod Inner

@@ -1,4 +1,4 @@
--- Two and three words behind the word of a command.
+-- One, two and three words behind the word of a command.
 use Rattle.std.specs.Prelude.{◌&&◌}
 use Rattle.std.proofs.Common.{◌≡◌, true, [], ◌∷◌, Some, codes}
 use Rattle.std.specs.List.{list_all}
@@ -7,11 +7,23 @@ use Rattle.clap.proofs.OnLiterals.{clap_on_literals}
 use Rattle.tn_words.specs.PlainWords.{is_plain_word}
 use Rattle.tn_words.proofs.Options.{required, both, no_minus}
 
+abbrev pub one : App
+one = with_rule (new_app (codes "tn")) (required (codes "first"))
+
 abbrev pub two : App
-two = with_rule (with_rule (new_app (codes "tn")) (required (codes "first"))) (required (codes "second"))
+two = with_rule one (required (codes "second"))
 
 abbrev pub three : App
 three = with_rule two (required (codes "third"))
+
+pub record OneIsRead (command first : Text) : Type 0 where
+  pub first_is : first_of (codes "first") (matches_of one (command ∷ first ∷ [])) ≡ Some first
+  pub taken : takes one (command ∷ first ∷ []) ≡ true
+
+pub one_read : (command first : Text) → is_plain_word first ≡ true → OneIsRead command first
+unfolding clap_on_literals
+one_read command [] h = absurd cc
+one_read command (c ∷ cs) h = record { first_is = simp (no_minus c h); taken = simp (no_minus c h) }
 
 pub record TwoAreRead (command first second : Text) : Type 0 where
   pub first_is : first_of (codes "first") (matches_of two (command ∷ first ∷ second ∷ [])) ≡ Some first
@@ -30,8 +42,8 @@ two_plain command (c ∷ cs) (d ∷ ds) h k = record {
 
 pub two_read : (command first second : Text) → list_all is_plain_word (first ∷ second ∷ []) ≡ true → TwoAreRead command first second
 two_read command first second h =
-    let one = both (is_plain_word first) (is_plain_word second && true) h in
-    two_plain command first second one.0 (both (is_plain_word second) true one.1).0
+    let tests = both (is_plain_word first) (is_plain_word second && true) h in
+    two_plain command first second tests.0 (both (is_plain_word second) true tests.1).0
 
 pub record ThreeAreRead (command first second third : Text) : Type 0 where
   pub first_is : first_of (codes "first") (matches_of three (command ∷ first ∷ second ∷ third ∷ [])) ≡ Some first
@@ -55,6 +67,6 @@ three_plain command (c ∷ cs) (d ∷ ds) (e ∷ es) h k l = record {
 pub three_read : (command first second third : Text) → list_all is_plain_word (first ∷ second ∷ third ∷ []) ≡ true
     → ThreeAreRead command first second third
 three_read command first second third h =
-    let one = both (is_plain_word first) (is_plain_word second && (is_plain_word third && true)) h in
-    let two = both (is_plain_word second) (is_plain_word third && true) one.1 in
-    three_plain command first second third one.0 two.0 (both (is_plain_word third) true two.1).0
+    let tests = both (is_plain_word first) (is_plain_word second && (is_plain_word third && true)) h in
+    let others = both (is_plain_word second) (is_plain_word third && true) tests.1 in
+    three_plain command first second third tests.0 others.0 (both (is_plain_word third) true others.1).0

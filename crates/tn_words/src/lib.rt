@@ -4,4 +4,4 @@
 
 mod positionals;
 
-pub use positionals::{several_matches, three_matches, two_matches};
+pub use positionals::{one_match, several_matches, three_matches, two_matches};

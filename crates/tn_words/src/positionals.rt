@@ -8,6 +8,19 @@ use clap::error::ErrorKind;
 use clap::{Arg, ArgMatches, Command, Error};
 use std::alloc::Global;
 
+/// The word of a command and one word behind it, as `clap` matches them. Where this is a plain word,
+/// it fails for want of memory alone.
+pub fn one_match<'a>(alloc: Global, words: &'a [String]) -> Result<ArgMatches<'a>, Error>
+    ensures values { (command first : List ℕ) → map string_bytes words.entry.now ≡ command ∷ first ∷ []
+        → is_plain_word first ≡ true → IfOk result (λ m. first_value (found_of m) (codes "first") ≡ Some first) }
+    ensures wanting { (command first : List ℕ) → map string_bytes words.entry.now ≡ command ∷ first ∷ []
+        → is_plain_word first ≡ true → IfErr result (λ e. kind_of e ≡ ErrorKind.OutOfMemory) }
+{
+    let first = Arg::new(alloc, "first").required(true);
+    let command = Command::new(alloc, "tn").arg(first)?;
+    command.try_get_matches_from(words)
+}
+
 /// The word of a command and two words behind it, as `clap` matches them. Where these are plain
 /// words, it fails for want of memory alone.
 pub fn two_matches<'a>(alloc: Global, words: &'a [String]) -> Result<ArgMatches<'a>, Error>
