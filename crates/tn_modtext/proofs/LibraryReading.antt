@@ -59,7 +59,8 @@ module _ (text : List ℕ) where
   read-library : (ms : List Parts) → IsLibraryText text ms → modules_read text ≡ Ok ms
   unfolding modules_read
   read-library ms is =
-      ap (λ r. result_then r (modules_checked 1)) ((library_reading text).only ms (spells text ms is)) ∙ all-valid 1 ms (recursion_from_All IsValid ms is.valid)
+      ap (λ r. result_then r (modules_checked 1)) ((library_reading text).only ms (spells text ms is))
+      ∙ all-valid 1 ms (recursion_from_All IsValid ms is.valid)
 
   read-fault : (fault : Fault) → IsLibraryTextFault text fault → modules_read text ≡ Err fault
   unfolding modules_read
