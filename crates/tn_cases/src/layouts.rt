@@ -4,6 +4,7 @@ ghost use Rattle.tn_layout.specs.Sizes.{NamesUpTo, AreNamed};
 use std::alloc::Global;
 use tn_layout::{LayoutFault, Piece, settle};
 use tn_tables::{Case, Report, Stop, decimal, number, said};
+use tn_text::limits::ITEM_LIMIT;
 
 /// Runs a case of the table of layouts.
 pub fn run_case(alloc: Global, case: &Case<'_>, report: &mut Report) -> Result<(), Stop> {
@@ -55,7 +56,7 @@ fn piece_of(words: &[&str]) -> Result<Piece, Stop> {
 
 /// The sizes of pieces, so many of them; where that is none, how many there are.
 fn settled(alloc: Global, pieces: &[Piece], most: usize) -> Result<Vec<u8>, Stop> {
-    if pieces.len() > 65_536 || !are_named(pieces) {
+    if pieces.len() > ITEM_LIMIT || !are_named(pieces) {
         return Err(Stop::BadCase);
     }
     match settle(alloc, pieces) {

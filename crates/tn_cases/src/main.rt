@@ -10,6 +10,7 @@ mod configs;
 mod faults;
 mod flat_sources;
 mod layouts;
+mod links;
 mod loader;
 mod module_texts;
 mod modules;
@@ -25,7 +26,7 @@ use tn_io::{HostOut, Out};
 use tn_tables::{Case, Line, Report, Stop, cases_of};
 
 /// The tables, in the order of what is printed.
-const TABLES: [&str; 14] = [
+const TABLES: [&str; 15] = [
     "commands",
     "stores",
     "texts",
@@ -40,6 +41,7 @@ const TABLES: [&str; 14] = [
     "sources",
     "module_texts",
     "configs",
+    "links",
 ];
 
 fn main(rt: HostRuntime) -> io::Result<()> {
@@ -99,6 +101,7 @@ fn run_case(alloc: Global, table: &str, case: &Case<'_>, report: &mut Report) ->
         "layouts" => layouts::run_case(alloc, case, report),
         "modules" => modules::run_case(alloc, case, report),
         "configs" => configs::run_case(alloc, case, report),
+        "links" => links::run_case(alloc, case, report),
         table => run_lines(alloc, table, case, report),
     }
 }

@@ -47,14 +47,15 @@ fn written(alloc: Global, m: &Module, text: &[u8]) -> Result<Vec<u8>, Stop> {
     )
 }
 
-fn is_short(m: &Module) -> bool
+/// Whether the lists of the module are short.
+pub fn is_short(m: &Module) -> bool
     ensures { IsTrue result → IsShort m.now }
 {
     let raw = m.raw();
-    raw.imports.len() < 1000
-        && raw.exports.len() < 1000
-        && raw.items.len() < 1000
-        && raw.cells.len() < 1000
+    raw.imports.len() < 1 << 30
+        && raw.exports.len() < 1 << 30
+        && raw.items.len() < 1 << 30
+        && raw.cells.len() < 1 << 30
 }
 
 /// The lines of imports and exports, and how many lines there are.
