@@ -1,0 +1,13 @@
+pub mod Lists
+pub mod EachOnce
+pub mod Ranges
+pub mod Choosing
+pub mod Reading
+pub mod Telling
+pub mod Making
+pub mod Processors
+pub mod FromTexts
+pub mod OneNetwork
+pub mod OneTree
+pub mod FirstFaults
+pub mod OneAnswer

@@ -1,0 +1,56 @@
+use Rattle.std.proofs.Common.{◌≡◌, ◌<◌, length, get_or, ap, ◌∙◌, subst}
+use Rattle.tn_symbols.specs.Sources.{offer}
+use Rattle.tn_config.specs.Configurations.{block_of}
+use Rattle.tn_stream.specs.Images.{image_of, images_of}
+use Rattle.tn_system.specs.Sources.{sources}
+use Rattle.tn_system.specs.Systems.{IsImageOf}
+use Rattle.tn_system.specs.Faults.{IsModulesFault, IsProcessorFault}
+use Rattle.tn_system.specs.Inner.Offers.{OfChoice}
+use Rattle.tn_system.proofs.Telling.{if-weaker}
+use Rattle.tn_system.proofs.Choosing.{of-chosen}
+use Rattle.tn_system.proofs.Processors.{offered-at, offer-at, range-at, refused-at, image-pushed}
+use Rattle.tn_system.proofs.images.images.Goals as goal
+
+pub processor_image-requires-clause-offer : goal.processor_image-requires-clause-offer
+processor_image-requires-clause-offer c =
+    let l = subst (λ xs. c.loop-k.k < length xs) c.deref-block-items.ensures.value c.loop-k-test.true in
+    let is = c.block-item.is ∙ ap (λ xs. get_or xs c.loop-k.k c.block-item.result) c.deref-block-items.ensures.value in
+    offer-at c.args.config_file.now c.args.config.now c.args.files.now c.args.pool.now c.args.shelf.now c.requires.read c.requires.files
+    c.loop-k.k c.block-item.result l is c.index.result.now c.index.ensures
+
+pub processor_image-requires-clause-range : goal.processor_image-requires-clause-range
+processor_image-requires-clause-range c =
+    let l = subst (λ xs. c.loop-k.k < length xs) c.deref-block-items.ensures.value c.loop-k-test.true in
+    let is = c.block-item.is ∙ ap (λ xs. get_or xs c.loop-k.k c.block-item.result) c.deref-block-items.ensures.value in
+    range-at c.args.config_file.now c.args.config.now c.args.files.now c.args.pool.now c.args.shelf.now c.requires.read c.requires.files
+    c.loop-k.k c.block-item.result l is
+
+pub returns-in-Err-clause-fault : goal.returns-in-Err-clause-fault
+returns-in-Err-clause-fault c =
+    let l = subst (λ xs. c.loop-k.k < length xs) c.deref-block-items.ensures.value c.loop-k-test.true in
+    let is = c.block-item.is ∙ ap (λ xs. get_or xs c.loop-k.k c.block-item.result) c.deref-block-items.ensures.value in
+    let o = offer c.args.pool.now c.index.result.now.modules.items c.args.shelf.now c.index.result.now.libraries.items in
+    let offered = offered-at c.args.config_file.now c.args.config.now c.args.files.now c.args.pool.now c.args.shelf.now c.requires.read
+    c.requires.files c.loop-k.k c.block-item.result l is c.index.result.now c.index.ensures in
+    if-weaker (λ told. OfChoice o (block_of c.block-item.result)
+    (IsModulesFault c.args.config_file.now (block_of c.block-item.result) told))
+    (IsProcessorFault (sources c.args.config_file.now c.args.config.now c.args.pool.now c.args.shelf.now)) c.in-Err.fault
+    (λ told h. refused-at c.args.config_file.now c.args.config.now c.args.files.now c.args.pool.now c.args.shelf.now c.requires.read
+    c.requires.files c.loop-k.k c.block-item.result l is (images_of c.loop-k.images.items) told c.loop-k.invariant.0
+    (of-chosen (sources c.args.config_file.now c.args.config.now c.args.pool.now c.args.shelf.now) (block_of c.block-item.result) o offered
+    (IsModulesFault c.args.config_file.now (block_of c.block-item.result) told) h))
+    c.in-Err.ensures.fault
+
+pub loop-k-preserved : goal.loop-k-preserved
+loop-k-preserved c =
+    let l = subst (λ xs. c.loop-k.k < length xs) c.deref-block-items.ensures.value c.loop-k-test.true in
+    let is = c.block-item.is ∙ ap (λ xs. get_or xs c.loop-k.k c.block-item.result) c.deref-block-items.ensures.value in
+    let o = offer c.args.pool.now c.index.result.now.modules.items c.args.shelf.now c.index.result.now.libraries.items in
+    let offered = offered-at c.args.config_file.now c.args.config.now c.args.files.now c.args.pool.now c.args.shelf.now c.requires.read
+    c.requires.files c.loop-k.k c.block-item.result l is c.index.result.now c.index.ensures in
+    image-pushed c.args.config_file.now c.args.config.now c.args.files.now c.args.pool.now c.args.shelf.now c.requires.read
+    c.requires.files c.loop-k.k c.block-item.result l is c.loop-k.images.items c.push.new.self.items c.in-Ok.image
+    c.in_ok-push.ensures.items c.loop-k.invariant
+    (of-chosen (sources c.args.config_file.now c.args.config.now c.args.pool.now c.args.shelf.now) (block_of c.block-item.result) o offered
+    (IsImageOf (block_of c.block-item.result) (image_of c.in-Ok.image)) c.in-Ok.ensures.made)
+    c.in-Ok.ensures.image

@@ -1,0 +1,6 @@
+pub mod Sources
+pub mod NamedFiles
+pub mod Systems
+pub mod Faults
+pub mod Answers
+pub mod Inner
