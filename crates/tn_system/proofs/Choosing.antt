@@ -1,7 +1,8 @@
 -- The modules that are chosen of an offer are those that are chosen for the processor.
-use Rattle.std.proofs.Common.{◌≡◌, ◌⊎◌, inl, inr, ℕ, zero, suc, ◌+◌, ◌<◌, ◌≤◌, List, [], ◌∷◌, ◌++◌, length, get_or, take, map, Option, Some, None}
+use Rattle.std.proofs.Common.{◌≡◌, ◌⊎◌, inl, inr, ℕ, suc, ◌+◌, ◌<◌, ◌≤◌}
+use Rattle.std.proofs.Common.{List, [], ◌∷◌, ◌++◌, length, get_or, take, map, Option, Some, None}
 use Rattle.std.proofs.Common.{refl, sym, ap, ◌∙◌, subst, arith}
-use Rattle.std.specs.Prelude.{All, slice_get, slice_index}
+use Rattle.std.specs.Prelude.{slice_get, slice_index}
 use Rattle.std.specs.List.{flat_map, range_with_len}
 use Rattle.std.specs.Option.{option_map_or}
 use Rattle.std.proofs.lemmas.List.{get_or-map, get_or_past, length-map, map-append, length-append}
@@ -13,13 +14,15 @@ use Rattle.tn_module.specs.Modules.{Parts}
 use Rattle.tn_modtext.specs.Lines.{lines_of}
 use Rattle.tn_symbols.specs.declared.choices.Source.{Source}
 use Rattle.tn_symbols.specs.Choices.{module_at, IsChosen}
-use Rattle.tn_symbols.specs.Sources.{Offer, modules_at, source, named_sources, library_sources, stock_sources, module_in, module_of, modules_of}
+use Rattle.tn_symbols.specs.Sources.{Offer, modules_at, source, named_sources}
+use Rattle.tn_symbols.specs.Sources.{library_sources, stock_sources, module_in, modules_of}
 use Rattle.tn_symbols.specs.Sources.{source_at, IsChoice}
 use Rattle.tn_symbols.proofs.Sourcing.{choice-picks}
 use Rattle.tn_config.specs.Configurations.{BlockState}
-use Rattle.tn_system.specs.Sources.{module_files, library_files, place_of, Sources, TextModule, parts_of, modules_behind, modules_in, named, stock}
+use Rattle.tn_system.specs.Sources.{module_files, library_files, place_of, Sources, TextModule}
+use Rattle.tn_system.specs.Sources.{parts_of, modules_behind, modules_in, named, stock}
 use Rattle.tn_system.specs.Sources.{module_in as module_of_file, text_module_at, IsChosenFor, OfChosen}
-use Rattle.tn_system.specs.Inner.Offers.{lines_before, text_in, text_of, OfChoice}
+use Rattle.tn_system.specs.Inner.Offers.{text_in, text_of, OfChoice}
 use Rattle.tn_system.proofs.Lists.{map_same}
 use Rattle.tn_system.proofs.Ranges.{map-map, map-flat_map, by-place, join-by-place}
 
@@ -45,7 +48,8 @@ behind-by-place f file before a (m ∷ ms) h =
     next : (i : ℕ) → i < length ms → f (a + 1 + i) ≡ text_at file (before + length (lines_of m)) ms i
     next i l =
         let same : a + 1 + i ≡ a + suc i = omega arith in
-        let lines : before + length (flat_map lines_of (m ∷ take i ms)) ≡ before + length (lines_of m) + length (flat_map lines_of (take i ms)) =
+        let lines : before + length (flat_map lines_of (m ∷ take i ms)) ≡ before + length (lines_of m) + length
+        (flat_map lines_of (take i ms)) =
         omega (arith, ap length (flat_map-cons lines_of m (take i ms)), length-append (lines_of m) (flat_map lines_of (take i ms))) in
         ap f same ∙ h (suc i) (omega (arith, l)) ∙ ap (λ n. record { file = file; before = n; parts = module_at ms i }) lines
 
@@ -65,7 +69,8 @@ library-at shelf u = by (slice_get_cases shelf u).1
 -- ---- offers
 
 -- the parts are those of the modules that sources tell
-pub part-same : (o : Offer) (b : BlockState) (index : ℕ) (library : Option ℕ) → (text_in o b index library).parts ≡ module_in o index library
+pub part-same : (o : Offer) (b : BlockState) (index : ℕ) (library : Option ℕ) →
+    (text_in o b index library).parts ≡ module_in o index library
 part-same o b index None = refl
 part-same o b index (Some u) = refl
 
@@ -103,7 +108,8 @@ module _ (s : Sources) (b : BlockState) (o : Offer) (is : IsOffered s b o) where
   library-same u l =
       let place : slice_index o.used u ≡ place_of (library_files s.config) (get_or b.libraries u []) =
       ap (λ l. get_or l u 0) is.used ∙ get_or-map (place_of (library_files s.config)) b.libraries u [] 0 l in
-      let modules : modules_at o.shelf (slice_index o.used u) ≡ get_or s.shelf (place_of (library_files s.config) (get_or b.libraries u [])) [] =
+      let modules : modules_at o.shelf (slice_index o.used u) ≡ get_or s.shelf
+      (place_of (library_files s.config) (get_or b.libraries u [])) [] =
       library-at o.shelf (slice_index o.used u) ∙ (λ j. get_or (is.shelf j) (place j) []) in
       map-map text (source (Some u)) (range_with_len 0 (length (modules_at o.shelf (slice_index o.used u))))
       ∙ behind-by-place (λ i. text_in o b i (Some u)) (get_or b.libraries u []) 1 0 (modules_at o.shelf (slice_index o.used u))
@@ -125,7 +131,8 @@ module _ (s : Sources) (b : BlockState) (o : Offer) (is : IsOffered s b o) where
         picks = c.picks;
         chosen =
             subst (λ l. IsChosen l (parts_of (stock s b)) c.picks) (sym (parts-same o b (named_sources o)) ∙ ap parts_of named-same)
-            (subst (λ l. IsChosen (modules_of o (named_sources o)) l c.picks) (sym (parts-same o b (stock_sources o)) ∙ ap parts_of stock-same)
+            (subst (λ l. IsChosen (modules_of o (named_sources o)) l c.picks)
+            (sym (parts-same o b (stock_sources o)) ∙ ap parts_of stock-same)
             c.chosen);
         modules_are = ap (map text) c.sources_are ∙ map-append text (named_sources o) (map (source_at (stock_sources o)) c.picks)
             ∙ (λ j. named-same j ++ picked j);

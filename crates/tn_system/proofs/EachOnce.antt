@@ -1,8 +1,9 @@
 -- Lists in which each file stands once.
-use Rattle.std.proofs.Common.{◌≡◌, ℕ, suc, ◌+◌, ◌≤◌, ◌<◌, Bool, true, false, ◌||◌, cond, List, [], ◌∷◌, ◌++◌, length, map, fold, get_or, take, drop}
+use Rattle.std.proofs.Common.{◌≡◌, ℕ, ◌+◌, ◌≤◌, ◌<◌, Bool, true, false, ◌||◌}
+use Rattle.std.proofs.Common.{cond, List, [], ◌∷◌, ◌++◌, length, map, fold, get_or, take, drop}
 use Rattle.std.proofs.Common.{refl, sym, ap, ◌∙◌, subst, arith, length-append, if◌then◌else◌}
 use Rattle.std.specs.Prelude.{All}
-use Rattle.std.specs.List.{flat_map, list_any, position_or_len}
+use Rattle.std.specs.List.{flat_map}
 use Rattle.std.specs.Cmp.Lexicographic.{nat_list_eq_equiv}
 use Rattle.std.proofs.lemmas.Bool.{ne_eqb, eq-eqb}
 use Rattle.std.proofs.lemmas.List.Elements.{All-cons, All-nil, All-head, All-tail, All-weaker}
@@ -69,7 +70,8 @@ module _ (files : List (List ℕ)) (file : List ℕ) where
 
 -- ---- several files more
 
-pub stays-all : (more files : List (List ℕ)) (other : List ℕ) → is_among files other ≡ true → is_among (fold with_file files more) other ≡ true
+pub stays-all : (more files : List (List ℕ)) (other : List ℕ) → is_among files other ≡ true → is_among
+    (fold with_file files more) other ≡ true
 stays-all [] files other h = h
 stays-all (file ∷ more) files other h = stays-all more (with_file files file) other (stays files file other h)
 
@@ -222,7 +224,8 @@ module _ (items blocks : List Block) (same : items ≡ blocks) (i : ℕ) (x : Bl
       → now_libraries ≡ fold with_file libraries others → places.modules.items ≡ map (place_of now_modules) files
       → places.libraries.items ≡ map (place_of now_libraries) others → new ≡ held ++ places ∷ []
       → AreNamed (map block_of (take (i + 1) blocks)) now_modules now_libraries (map places_in new)
-  block-more modules libraries now_modules now_libraries files others held new places files_are others_are named now_m now_l p_m p_l new_is =
+  block-more modules libraries now_modules now_libraries files others held new places files_are others_are named now_m now_l p_m p_l
+      new_is =
       let m : now_modules ≡ fold with_file modules x.modules.items = now_m ∙ ap (fold with_file modules) files_are in
       let n : now_libraries ≡ fold with_file libraries x.libraries.items = now_l ∙ ap (fold with_file libraries) others_are in
       let first : places.modules.items ≡ map (place_of (fold with_file modules x.modules.items)) x.modules.items =

@@ -1,11 +1,12 @@
 -- One thing is wrong first with the names of modules.
-use Rattle.std.proofs.Common.{◌≡◌, ◌⊎◌, inl, inr, ℕ, ◌<◌, List, Some, refl, sym, ap, ◌∙◌, arith}
+use Rattle.std.proofs.Common.{◌≡◌, ◌⊎◌, inl, inr, ℕ, ◌<◌, List, refl, sym, ◌∙◌, arith}
 use Rattle.std.proofs.lemmas.Option.{same_Some}
 use Rattle.tn_text.specs.Firsts.{AreInOrder, AreSingle}
 use Rattle.tn_text.proofs.Firsts.{one_first, none_first}
 use Rattle.tn_module.specs.Modules.{Parts}
 use Rattle.tn_symbols.specs.declared.choices.ChooseFault.{ChooseFault}
-use Rattle.tn_symbols.specs.Faults.{Site, ExportAt, ImportAt, list_number, module_number, index, fault_at, IsBefore, IsWrong, AreSound, IsFirstFault}
+use Rattle.tn_symbols.specs.Faults.{ExportAt, ImportAt}
+use Rattle.tn_symbols.specs.Faults.{IsBefore, IsWrong, AreSound, IsFirstFault}
 
 three : (a b : ℕ) → (a < b) ⊎ ((b < a) ⊎ (a ≡ b))
 three a b = grind arith

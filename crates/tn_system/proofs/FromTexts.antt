@@ -1,8 +1,8 @@
 -- What was read from texts of files may become a system.
-use Rattle.std.proofs.Common.{◌≡◌, ℕ, zero, suc, ◌+◌, ◌<◌, ◌≤◌, ◌^◌, Bool, true, false, cond, List, [], ◌∷◌, ◌++◌, length, map}
-use Rattle.std.proofs.Common.{Option, Some, None, refl, sym, ap, ◌∙◌, subst, arith, All, length-append}
+use Rattle.std.proofs.Common.{◌≡◌, ℕ, suc, ◌+◌, ◌<◌, ◌≤◌, ◌^◌, Bool, true, false, cond, List, [], ◌∷◌, length, map}
+use Rattle.std.proofs.Common.{sym, ap, ◌∙◌, subst, arith, All, length-append}
 use Rattle.std.specs.Bool.{◌==◌}
-use Rattle.std.specs.List.{filter_map, cons_option, flat_map, slice_split, onto_first}
+use Rattle.std.specs.List.{filter_map, flat_map, slice_split, onto_first}
 use Rattle.std.specs.Str.Lines.{lines, lines_of_parts}
 use Rattle.std.proofs.lemmas.Bool.Decides.{nat_tests}
 use Rattle.std.proofs.lemmas.List.{length-map}
@@ -25,7 +25,7 @@ use Rattle.tn_config.specs.Configurations.{BlockState, ConfigState}
 use Rattle.tn_config.specs.Statements.{LinesSay}
 use Rattle.tn_config.specs.Parts.{Part, ABlock, AHost, AWire, inside, part_lines, IsWhole, IsConfig, block_in, module_in, library_in}
 use Rattle.tn_config.proofs.Fits.{Fitting, silent, telling, line_fits}
-use Rattle.tn_system.specs.Sources.{NamesFewFiles, HasFewLines, IsShortLibrary}
+use Rattle.tn_system.specs.Sources.{NamesFewFiles, HasFewLines}
 
 -- ---- modules and libraries
 

@@ -1,5 +1,6 @@
 -- What is made of the chosen modules, and what is wrong with their names.
-use Rattle.std.proofs.Common.{◌≡◌, ◌⊎◌, inl, inr, ℕ, ◌<◌, ◌≤◌, ◌^◌, Bool, true, false, List, [], length, get_or, take, map, ◌++◌, Option, Some, None}
+use Rattle.std.proofs.Common.{◌≡◌, ◌⊎◌, inl, inr, ℕ, ◌<◌, ◌^◌, Bool, true}
+use Rattle.std.proofs.Common.{false, List, [], length, get_or, take, map, ◌++◌, Option, Some, None}
 use Rattle.std.proofs.Common.{refl, sym, ap, ◌∙◌, subst, arith, if◌then◌else◌}
 use Rattle.std.specs.Prelude.{slice_get, option_and_then, All}
 use Rattle.std.proofs.lemmas.Bool.{cases_lt}
@@ -28,10 +29,10 @@ use Rattle.tn_stream.specs.Images.{ImageBytes}
 use Rattle.tn_image.specs.declared.images.ImageFault.{ImageFault}
 use Rattle.tn_image.specs.Images.{IsImageFor, IsImageFault}
 use Rattle.tn_system.specs.declared.systems.SystemFault.{SystemFault}
-use Rattle.tn_system.specs.Sources.{TextModule, parts_of}
+use Rattle.tn_system.specs.Sources.{parts_of}
 use Rattle.tn_system.specs.Systems.{IsImageOf}
 use Rattle.tn_system.specs.Faults.{import_fault as told_import, export_fault as told_export}
-use Rattle.tn_system.specs.Faults.{symbol_fault, image_fault, IsSymbolFault, IsCheckFault, IsModulesFault}
+use Rattle.tn_system.specs.Faults.{symbol_fault, image_fault, IsSymbolFault, IsModulesFault}
 use Rattle.tn_system.specs.Inner.Offers.{text_of, OfChoice, IsOfferOf}
 use Rattle.tn_system.proofs.Choosing.{parts-same}
 
@@ -46,7 +47,8 @@ pub copies-moved : (o p : Offer) (sources : List Source) (modules : List Parts) 
 copies-moved o p sources modules e c = c ∙ ap (λ o. modules_of o sources) e
 
 -- chosen modules can be linked
-pub linkable : (o : Offer) → IsOffer o → (sources : List Source) (modules : List Parts) → IsChoice o sources → modules ≡ modules_of o sources
+pub linkable : (o : Offer) → IsOffer o → (sources : List Source) (modules : List Parts) → IsChoice o sources
+    → modules ≡ modules_of o sources
     → AreDefined modules → AreLinkable modules
 linkable o is sources modules choice copies defined = record {
   defined = defined;
@@ -259,7 +261,8 @@ module _ (o : Offer) (b : BlockState) (is : IsOfferOf o b) (sources : List Sourc
       undefined-within = subst (λ (p : Parts). i < length p.imports) (module-there x x_is undefined-index)
           (undefined-here (modules_of o sources) m i undefined-first).within
 
-      pub undefined-told : (told : SystemFault) → told_import code.UndefinedSymbol i (text_of o b x) ≡ Some told → OfChoice o b (IsSymbolFault told)
+      pub undefined-told : (told : SystemFault) → told_import code.UndefinedSymbol i (text_of o b x) ≡ Some told → OfChoice o b
+          (IsSymbolFault told)
       undefined-told told e = told-names o b sources choice (choose.Undefined m i) told undefined-first
           (ap (option_and_then (told_import code.UndefinedSymbol i)) (text-there x x_is undefined-index) ∙ e)
 
@@ -297,6 +300,7 @@ module _ (o : Offer) (b : BlockState) (is : IsOfferOf o b) (sources : List Sourc
       duplicate-within = subst (λ (p : Parts). i < length p.exports) (module-there x x_is duplicate-index)
           (duplicate-here (modules_of o sources) m i duplicate-first).within
 
-      pub duplicate-told : (told : SystemFault) → told_export code.DuplicateSymbol i (text_of o b x) ≡ Some told → OfChoice o b (IsSymbolFault told)
+      pub duplicate-told : (told : SystemFault) → told_export code.DuplicateSymbol i (text_of o b x) ≡ Some told → OfChoice o b
+          (IsSymbolFault told)
       duplicate-told told e = told-names o b sources choice (choose.Duplicate m i) told duplicate-first
           (ap (option_and_then (told_export code.DuplicateSymbol i)) (text-there x x_is duplicate-index) ∙ e)

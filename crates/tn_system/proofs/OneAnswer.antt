@@ -1,32 +1,27 @@
 -- What sources come to is one thing.
-use Rattle.std.proofs.Common.{◌≡◌, ◌⊎◌, inl, inr, ℕ, List, [], ◌∷◌, ◌++◌, length, map, Option, Some, None, Result, Ok, Err, refl, sym, ap, ◌∙◌, subst}
+use Rattle.std.proofs.Common.{◌≡◌, inl, inr, ℕ, List, [], ◌∷◌, ◌++◌, length, map}
+use Rattle.std.proofs.Common.{Some, Result, Ok, Err, refl, sym, ap, ◌∙◌, subst}
 use Rattle.std.specs.Prelude.{All, slice_get, option_map}
 use Rattle.std.specs.List.{AllZip}
-use Rattle.std.proofs.lemmas.List.Elements.{All-cons, All-nil, All-head, All-tail}
+use Rattle.std.proofs.lemmas.List.Elements.{All-head, All-tail}
 use Rattle.std.proofs.lemmas.List.{length-map}
 use Rattle.std.proofs.lemmas.Option.{same_Some, none-some}
-use Rattle.tn_text.specs.declared.faults.Fault.{Fault}
-use Rattle.tn_module.specs.Modules.{Parts}
-use Rattle.tn_symbols.specs.Faults.{AreSound}
 use Rattle.tn_symbols.proofs.OneChoice.{one_is_chosen}
-use Rattle.tn_link.specs.declared.linking.LinkFault.{LinkFault}
-use Rattle.tn_link.specs.declared.linking.LinkFault.TheVariants as link
 use Rattle.tn_config.specs.Configurations.{BlockState}
 use Rattle.tn_config.specs.Networks.{named_size, described}
 use Rattle.tn_net.specs.Lines.{IsAdmitted}
-use Rattle.tn_net.specs.Networks.{NetworkState}
 use Rattle.tn_net.specs.Trees.{IsLoadTree, IsFirstUnreachable}
 use Rattle.tn_net.proofs.Faultless.{faultless_or_fault, one_first_fault}
 use Rattle.tn_stream.specs.Images.{ImageBytes}
 use Rattle.tn_image.specs.declared.images.ImageFault.{ImageFault}
 use Rattle.tn_image.specs.declared.images.ImageFault.TheVariants as image
-use Rattle.tn_image.specs.Images.{IsImageFor, IsImageFault, IsRight, OneIsRight}
+use Rattle.tn_image.specs.Images.{IsImageFault, IsRight, OneIsRight}
 use Rattle.tn_image.proofs.OneAnswer.{one_is_right}
 use Rattle.tn_system.specs.declared.systems.SystemFault.{SystemFault}
 use Rattle.tn_system.specs.declared.systems.SystemFault.TheVariants as system
 use Rattle.tn_system.specs.Sources.{Sources, TextModule, parts_of, named, stock, text_module_at, IsChosenFor, OfChosen}
 use Rattle.tn_system.specs.Systems.{SystemState, IsImageOf, IsProcessorImage, IsSystem}
-use Rattle.tn_system.specs.Faults.{symbol_fault, image_fault, unreachable, HasImage, IsSymbolFault, IsCheckFault, IsModulesFault}
+use Rattle.tn_system.specs.Faults.{symbol_fault, image_fault, unreachable, HasImage, IsCheckFault, IsModulesFault}
 use Rattle.tn_system.specs.Faults.{IsProcessorFault, IsDescriptionFault, IsReachFault, IsSystemFault, at_processor, at_network, at_tree}
 use Rattle.tn_system.specs.Answers.{OneAnswers}
 use Rattle.tn_system.proofs.FirstFaults.{one-fault, sound-or-fault}

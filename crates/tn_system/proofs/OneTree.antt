@@ -1,12 +1,11 @@
 -- A network has one load tree.
-use Rattle.std.proofs.Common.{◌≡◌, ◌⊎◌, inl, inr, ℕ, zero, suc, ◌+◌, ◌<◌, ◌≤◌, List, [], ◌∷◌, ◌++◌, length, get_or, Option, Some, None}
+use Rattle.std.proofs.Common.{◌≡◌, ◌⊎◌, inl, inr, ℕ, zero, suc, ◌<◌, List, [], ◌∷◌, ◌++◌, length, Option, Some, None}
 use Rattle.std.proofs.Common.{refl, sym, ap, ◌∙◌, subst, arith, if◌then◌else◌}
 use Rattle.std.specs.Prelude.{⊤}
 use Rattle.std.proofs.lemmas.Bool.{cases_lt}
 use Rattle.std.proofs.lemmas.List.{ext_get_or}
-use Rattle.std.proofs.lemmas.Option.{same_Some}
 use Rattle.tn_net.specs.declared.networks.Far.TheVariants.{Link}
-use Rattle.tn_net.specs.Networks.{NetworkState, far_at, IsPairing}
+use Rattle.tn_net.specs.Networks.{NetworkState, far_at}
 use Rattle.tn_net.specs.Paths.{Leads, IsLess, IsPath, path_at}
 use Rattle.tn_net.specs.Trees.{LoadNode, node_at, PrecedesInDictionary, is_parent, children_below, HangsBelow, IsLoadTree}
 use Rattle.tn_net.specs.WholeTrees.{IsWholeTree}
@@ -150,7 +149,8 @@ module _ (n : NetworkState) (nodes others : List LoadNode) (count : ℕ) (sizes 
   -- different places have different paths
   place-same : (j k : ℕ) → j < length nodes → k < length nodes → path_at t.paths j ≡ path_at t.paths k → j ≡ k
   place-same j k jl kl e =
-      let x : j < k → ⊥ = λ h. stands_self (path_at t.paths j) (subst (PrecedesInDictionary (path_at t.paths j)) (sym e) (t.order j k h kl)) in
+      let x : j < k → ⊥ = λ h. stands_self (path_at t.paths j) (subst (PrecedesInDictionary (path_at t.paths j)) (sym e)
+      (t.order j k h kl)) in
       let y : k < j → ⊥ = λ h. stands_self (path_at t.paths k) (subst (PrecedesInDictionary (path_at t.paths k)) e (t.order k j h jl)) in
       omega (arith, x, y)
 
@@ -173,7 +173,8 @@ module _ (n : NetworkState) (nodes others : List LoadNode) (count : ℕ) (sizes 
       ∙ sym (path-same g.place)) in
       let from : (node_at nodes h.place).processor ≡ (node_at others g.place).processor =
       processor-same h.place h.here ∙ ap (λ p. (node_at others p).processor) place in
-      let far : Link (node_at nodes k).processor (node_at nodes k).boot_link ≡ Link (node_at others k).processor (node_at others k).boot_link =
+      let far : Link (node_at nodes k).processor (node_at nodes k).boot_link ≡ Link (node_at others k).processor
+      (node_at others k).boot_link =
       sym h.wire ∙ (λ j. far_at n (from j) (link j)) ∙ g.wire in
       record { parent = h.parent ∙ ap Some place ∙ sym g.parent; link = link; boot = (link-same _ _ _ _ far).1 }
 

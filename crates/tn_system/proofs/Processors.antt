@@ -12,7 +12,7 @@ use Rattle.tn_symbols.specs.Sources.{Offer, offer}
 use Rattle.tn_config.specs.declared.configurations.Block.{Block}
 use Rattle.tn_config.specs.declared.configurations.Config.{Config}
 use Rattle.tn_config.specs.Configurations.{BlockState, block_of, config_of}
-use Rattle.tn_config.specs.Writable.{IsWritableBlock, IsWritable}
+use Rattle.tn_config.specs.Writable.{IsWritableBlock}
 use Rattle.tn_stream.specs.declared.images.Image.{Image}
 use Rattle.tn_stream.specs.Images.{ImageBytes, image_of, images_of, IsImage, AreImages}
 use Rattle.tn_image.specs.Images.{IsInRange}
@@ -20,7 +20,7 @@ use Rattle.tn_system.specs.declared.files.BlockFiles.{BlockFiles}
 use Rattle.tn_system.specs.declared.files.NamedFiles.{NamedFiles}
 use Rattle.tn_system.specs.declared.systems.SystemFault.{SystemFault}
 use Rattle.tn_system.specs.Sources.{module_files, library_files, Sources, sources, AreRead, OfChosen}
-use Rattle.tn_system.specs.NamedFiles.{FilePlaces, places_in, lists_of, block_places, named_files}
+use Rattle.tn_system.specs.NamedFiles.{places_in, lists_of, block_places, named_files}
 use Rattle.tn_system.specs.Systems.{IsProcessorImage}
 use Rattle.tn_system.specs.Faults.{HasImage, IsModulesFault, IsProcessorFault}
 use Rattle.tn_system.specs.Inner.Offers.{IsOfferOf}
@@ -123,7 +123,8 @@ module _ (config_file : List ℕ) (config : Config) (files : NamedFiles) (pool :
           → IsProcessorImage s (block_of block) (image_of image) → IsImage (image_of image)
           → AllZip (IsProcessorImage s) (map block_of (take (k + 1) config.blocks.items)) (images_of new) × AreImages (images_of new)
       image-pushed images new image new_is so_far this is_image =
-          let same : images_of new ≡ images_of images ++ image_of image ∷ [] = ap images_of new_is ∙ map-append image_of images (image ∷ []) in (
+          let same : images_of new ≡ images_of images ++ image_of image ∷ [] = ap images_of new_is ∙ map-append image_of images
+          (image ∷ []) in (
             subst (AllZip (IsProcessorImage s) (map block_of (take (k + 1) config.blocks.items))) (sym same)
                 (image-more (images_of images) (image_of image) so_far.0 this),
             subst AreImages (sym same) (All-append IsImage (images_of images) (image_of image ∷ []) so_far.1

@@ -1,23 +1,23 @@
 -- What is offered to a processor of sources that were read.
-use Rattle.std.proofs.Common.{◌≡◌, ℕ, suc, ◌+◌, ◌*◌, ◌<◌, ◌≤◌, ◌^◌, true, List, [], ◌∷◌, ◌++◌, length, get_or, take, drop, map, Some, None, refl, sym, ap, ◌∙◌, subst, arith}
+use Rattle.std.proofs.Common.{◌≡◌, ℕ, ◌+◌, ◌*◌, ◌<◌, ◌≤◌, ◌^◌, true, List, [], ◌∷◌, ◌++◌}
+use Rattle.std.proofs.Common.{length, get_or, take, drop, map, Some, None, sym, ap, ◌∙◌, subst, arith}
 use Rattle.std.specs.Prelude.{All, slice_index}
 use Rattle.std.specs.List.{flat_map, range_with_len}
-use Rattle.std.proofs.lemmas.List.{length-map, length-append, get_or-map, take-append-drop}
+use Rattle.std.proofs.lemmas.List.{length-map, length-append, take-append-drop}
 use Rattle.std.proofs.lemmas.List.Concat.{flat_map-cons, flat_map-append}
 use Rattle.std.proofs.lemmas.List.Folds.{length-flat_map-take}
-use Rattle.std.proofs.lemmas.List.FromFn.{length-range_with_len, length-map-range_with_len, get_or-range_with_len}
-use Rattle.std.proofs.lemmas.List.Elements.{All-cons, All-nil, All-map, All-weaker, All-get_or, All-from_get_or}
+use Rattle.std.proofs.lemmas.List.FromFn.{length-range_with_len, length-map-range_with_len}
+use Rattle.std.proofs.lemmas.List.Elements.{All-cons, All-nil, All-map, All-weaker, All-get_or}
 use Rattle.tn_text.specs.declared.limits.TheConstants.{FILE_LIMIT, MODULE_LIMIT}
 use Rattle.tn_module.specs.declared.modules.Library.{Library}
 use Rattle.tn_module.specs.Modules.{Parts, IsShort}
 use Rattle.tn_module.specs.Names.{same_name, is_among}
 use Rattle.tn_modtext.specs.Lines.{lines_of}
 use Rattle.tn_modtext.proofs.ModuleLaws.{length-lines}
-use Rattle.tn_symbols.specs.declared.choices.Source.{Source}
-use Rattle.tn_symbols.specs.Sources.{Offer, offer, modules_at, source, named_sources, library_sources, stock_sources, IsOffer}
+use Rattle.tn_symbols.specs.Sources.{Offer, modules_at, source, library_sources, stock_sources, IsOffer}
 use Rattle.tn_symbols.specs.Sources.{IsShortLibrary as IsShortOffer}
-use Rattle.tn_config.specs.Configurations.{BlockState, ConfigState}
-use Rattle.tn_system.specs.Sources.{module_files, library_files, place_of, each_once, Sources, HasFewLines, IsShortLibrary, AreRead}
+use Rattle.tn_config.specs.Configurations.{BlockState}
+use Rattle.tn_system.specs.Sources.{module_files, library_files, place_of, Sources, HasFewLines, IsShortLibrary, AreRead}
 use Rattle.tn_system.specs.Inner.Offers.{IsOfferOf}
 use Rattle.tn_system.proofs.Lists.{all_mapped, length-joined, place-below}
 use Rattle.tn_system.proofs.EachOnce.{AreAmong, each-there}
@@ -71,7 +71,8 @@ lines-before-few ms i =
 places-here : (files others : List (List ℕ)) → AreAmong files others → All (λ i. i < length files) (map (place_of files) others)
 places-here files others h =
     All-map (λ i. i < length files) (place_of files) others
-    (All-weaker (λ other. is_among files other ≡ true) (λ other. place_of files other < length files) (λ other there. place-below (same_name other) files there) others h)
+    (All-weaker (λ other. is_among files other ≡ true) (λ other. place_of files other < length files)
+    (λ other there. place-below (same_name other) files there) others h)
 
 -- the files of a processor are few
 few-files : {X : Type 0} (f : X → List (List ℕ)) (xs : List X) (k : ℕ) (d : X) → k < length xs

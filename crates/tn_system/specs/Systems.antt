@@ -1,5 +1,5 @@
 -- Systems: the images of all processors, their network, and the tree by which it loads.
-use Rattle.std.specs.Prelude.{ℕ, List, length}
+use Rattle.std.specs.Prelude.{List, length}
 use Rattle.std.specs.List.{AllZip}
 use Rattle.tn_symbols.specs.Faults.{AreSound}
 use Rattle.tn_config.specs.Configurations.{BlockState}

@@ -1,7 +1,6 @@
 -- The modules that a processor is offered, as the choice of modules numbers them.
-use Rattle.std.specs.Prelude.{◌≡◌, ℕ, ◌+◌, ◌^◌, ◌<◌, List, [], map, length, take, slice_index, slice_index_or, All, Option, Some, None}
+use Rattle.std.specs.Prelude.{◌≡◌, ℕ, ◌+◌, List, [], map, length, take, slice_index, slice_index_or, All, Option, Some, None}
 use Rattle.std.specs.List.{flat_map}
-use Rattle.tn_module.specs.declared.modules.Library.{Library}
 use Rattle.tn_module.specs.Modules.{Parts}
 use Rattle.tn_modtext.specs.Lines.{lines_of}
 use Rattle.tn_symbols.specs.declared.choices.Source.{Source}

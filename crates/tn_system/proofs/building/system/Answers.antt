@@ -1,4 +1,4 @@
-use Rattle.std.proofs.Common.{◌≡◌, ℕ, Some, length, sym, ◌∙◌, ap, subst}
+use Rattle.std.proofs.Common.{◌≡◌, ℕ, Some, sym, ◌∙◌, subst}
 use Rattle.std.specs.Prelude.{slice_get, option_map}
 use Rattle.std.proofs.lemmas.List.{length-map}
 use Rattle.std.proofs.lemmas.Slice.Zip.{AllZip-long}
@@ -33,7 +33,8 @@ returns-in-Err-network-clause-fault c =
 pub returns-in-Ok-tree-clause-whole : goal.returns-in-Ok-tree-clause-whole
 returns-in-Ok-tree-clause-whole c =
     let s = sources c.args.config_file.now c.args.config.now c.args.pool.now c.args.shelf.now in
-    let count = AllZip-long (IsProcessorImage s) (config_of c.args.config.now).blocks (images_of c.in-Ok.images.items) c.in-Ok.ensures.made in
+    let count = AllZip-long (IsProcessorImage s) (config_of c.args.config.now).blocks (images_of c.in-Ok.images.items)
+    c.in-Ok.ensures.made in
     subst (IsWholeTree c.in-Ok-tree.tree.nodes.items)
     (sym (length-map c.args.config.now.blocks.items block_of) ∙ sym count ∙ length-map c.in-Ok.images.items image_of)
     c.in-Ok-tree.ensures.whole

@@ -1,4 +1,4 @@
-use Rattle.std.proofs.Common.{◌≡◌, ◌<◌, length, arith}
+use Rattle.std.proofs.Common.{arith}
 use Rattle.tn_system.proofs.EachOnce.{keys-more, keys-fit, places-more}
 use Rattle.tn_system.proofs.files.add_files.Goals as goal
 

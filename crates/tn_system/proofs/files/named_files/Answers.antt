@@ -1,4 +1,4 @@
-use Rattle.std.proofs.Common.{◌≡◌, ◌<◌, length, arith}
+use Rattle.std.proofs.Common.{arith}
 use Rattle.tn_config.specs.Configurations.{BlockState}
 use Rattle.tn_system.proofs.EachOnce.{files-fit, block-more}
 use Rattle.tn_system.proofs.files.named_files.Goals as goal

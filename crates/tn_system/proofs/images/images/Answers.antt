@@ -1,4 +1,4 @@
-use Rattle.std.proofs.Common.{◌≡◌, ◌<◌, length, get_or, ap, ◌∙◌, subst}
+use Rattle.std.proofs.Common.{◌<◌, length, get_or, ap, ◌∙◌, subst}
 use Rattle.tn_symbols.specs.Sources.{offer}
 use Rattle.tn_config.specs.Configurations.{block_of}
 use Rattle.tn_stream.specs.Images.{image_of, images_of}

@@ -39,7 +39,8 @@ returns-in-Ok-clause-fault c =
     if-weaker (λ told. image_fault c.args.config_file.now c.in-Err-image.fault ≡ Some told)
     (λ told. OfChoice (offer_of c.args.offer.now) (block_of c.args.offer.now.block.now)
     (IsModulesFault c.args.config_file.now (block_of c.args.offer.now.block.now) told)) c.image_fault.result
-    (λ g told. failed (offer_of c.args.offer.now) (block_of c.args.offer.now.block.now) c.in-Ok.chosen.sources.items c.in-Ok.chosen.modules.items
+    (λ g told. failed (offer_of c.args.offer.now) (block_of c.args.offer.now.block.now) c.in-Ok.chosen.sources.items
+    c.in-Ok.chosen.modules.items
     (choice-moved at (offer_of c.args.offer.now) c.in-Ok.chosen.sources.items same c.in-Ok.ensures.choice)
     (copies-moved at (offer_of c.args.offer.now) c.in-Ok.chosen.sources.items c.in-Ok.chosen.modules.items same c.in-Ok.ensures.copies)
     c.in-Ok.ensures.sound c.args.config_file.now c.in-Err-image.fault g c.in-Err-image.ensures.fault told)

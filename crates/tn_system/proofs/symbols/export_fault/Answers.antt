@@ -1,4 +1,4 @@
-use Rattle.std.proofs.Common.{◌≡◌, sym, ap, ◌∙◌, subst, length, ◌<◌}
+use Rattle.std.proofs.Common.{sym, ap, ◌∙◌, subst, length, ◌<◌}
 use Rattle.tn_text.specs.declared.faults.FaultCode.TheVariants as code
 use Rattle.tn_module.specs.Modules.{Parts}
 use Rattle.tn_config.specs.Configurations.{block_of}

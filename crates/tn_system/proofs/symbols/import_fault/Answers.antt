@@ -1,4 +1,4 @@
-use Rattle.std.proofs.Common.{◌≡◌, sym, ap, ◌∙◌, subst, length, ◌<◌}
+use Rattle.std.proofs.Common.{sym, ap, ◌∙◌, subst, length, ◌<◌}
 use Rattle.tn_module.specs.Modules.{Parts}
 use Rattle.tn_config.specs.Configurations.{block_of}
 use Rattle.tn_system.specs.Inner.Offers.{offer_of, text_of}

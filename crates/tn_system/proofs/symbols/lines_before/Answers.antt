@@ -1,4 +1,4 @@
-use Rattle.std.proofs.Common.{◌≡◌, ℕ, Option, Some, sym, ap, ◌∙◌, ◌+◌, subst, arith}
+use Rattle.std.proofs.Common.{ℕ, Option, sym, ap, ◌∙◌, ◌+◌, subst, arith}
 use Rattle.tn_module.specs.declared.modules.Library.{Library}
 use Rattle.tn_symbols.specs.Inner.Sourcing.{IsIn}
 use Rattle.tn_config.specs.Configurations.{block_of}

@@ -1,4 +1,4 @@
-use Rattle.std.proofs.Common.{◌≡◌, ◌<◌, arith}
+use Rattle.std.proofs.Common.{arith}
 use Rattle.tn_system.proofs.Reading.{short-module, lines-among}
 use Rattle.tn_system.proofs.symbols.lines_of.Goals as goal
 
