@@ -9,7 +9,7 @@ use Rattle.tn_modtext.specs.Lines.{lines_of}
 use Rattle.tn_symbols.specs.Choices.{module_at, IsChosen}
 use Rattle.tn_config.specs.declared.configurations.Config.{Config}
 use Rattle.tn_net.specs.Lines.{IsAdmitted}
-use Rattle.tn_config.specs.Configurations.{BlockState, ConfigState, config_of}
+use Rattle.tn_config.specs.Configurations.{BlockState, ConfigState, config_of, file_lines}
 use Rattle.tn_config.specs.Networks.{described}
 use Rattle.tn_config.specs.Writable.{IsWritable}
 
@@ -31,10 +31,9 @@ module_files c = each_once (flat_map (λ b. b.modules) c.blocks)
 abbrev pub library_files : ConfigState → List (List ℕ)
 library_files c = each_once (flat_map (λ b. b.libraries) c.blocks)
 
--- Fewer files are named than a text may have bytes. Each has a line of its own, so this holds of whatever
--- is read from such a text.
+-- Fewer lines name files than a text may have bytes, as of each configuration that is read.
 abbrev pub NamesFewFiles : ConfigState → Type 0
-NamesFewFiles c = length (flat_map (λ b. b.modules) c.blocks) + length (flat_map (λ b. b.libraries) c.blocks) < FILE_LIMIT
+NamesFewFiles c = file_lines c < FILE_LIMIT
 
 -- the place of a file among files
 abbrev pub place_of : List (List ℕ) → List ℕ → ℕ
