@@ -11,18 +11,17 @@ use Rattle.tn_top.specs.declared.refusals.Refusal.{Refusal}
 use Rattle.tn_top.specs.declared.refusals.Refusal.TheVariants as refusal
 use Rattle.tn_top.specs.declared.statuses.Status.{Status}
 use Rattle.tn_top.specs.declared.statuses.Status.TheVariants as status
-use Rattle.tn_top.specs.Plans.{Answer, usage, unread, fault, limit, refused, done, Plan, gives, stops, reads, then_plan, found}
-use Rattle.tn_top.specs.Plans.{either_answer, answer_of, Goes}
+use Rattle.tn_top.specs.Plans.{Answer, usage, unread, fault, limit, refused, done, Plan, gives, stops, reads, then_plan, Goes}
+use Rattle.tn_top.specs.Plans.{Reaches, at_end, at_stop, at_gap}
 use Rattle.tn_top.specs.Inner.Stages.{Unable, Staged}
 use Rattle.tn_top.specs.Outcomes.{Told, SameFiles, Holds, HoldsPart, without, Begins, printed_by, status_of, IsDone, IsPrinted, AllGiven}
-use Rattle.tn_top.specs.Outcomes.{WritesTo, CannotRead, HasCause}
-use Rattle.tn_top.specs.Outcomes.{NothingFailed, FilesAfter, PrintedAfter}
+use Rattle.tn_top.specs.Outcomes.{WritesTo, AnswersLike, CannotRead, HasCause, HasStatus, Unless}
+use Rattle.tn_top.specs.Outcomes.{NothingFailed, FilesAfter, PrintedAfter, PrintsWhole, PrintsPart}
 use Rattle.tn_top.specs.Refusals.{end_status, refused_line, end_line}
-use Rattle.tn_top.specs.ErrLines.{IsLine, IsAnswer}
+use Rattle.tn_top.specs.ErrLines.{IsLine}
 use Rattle.tn_top.specs.Inner.Ends.{Prints, Ends, wrote_all, showed_all, unable, wrote_part, wrote_for_want, showed_part, showed_for_want}
 use Rattle.tn_top.specs.Inner.Ends.{not_enabled, Puts, Shows}
-use Rattle.tn_top.proofs.Puts.{told-weaker, part-same}
-use Rattle.tn_top.proofs.PlanLaws.{goes-then, given-goes, found-goes, without-goes, missing-goes}
+use Rattle.tn_top.proofs.PlanLaws.{goes-then, given-goes, without-goes, one_answer}
 use Rattle.tn_top.proofs.StageLaws.{unable-then}
 
 more : {P Q : Files → Type 0} (files : Option Files) → ((fs : Files) → P fs → Q fs) → IfSome files P → IfSome files Q
@@ -34,29 +33,30 @@ always None f = tt
 always (Some fs) f = f fs
 
 -- the answer where a plan was followed to its end
-given : (files : Option Files) (plan : Plan Answer) (a : Answer) → Goes files plan (gives a) → IfSome files (λ fs. answer_of plan fs ≡ a)
-unfolding answer_of found
+given : (files : Option Files) (plan : Plan Answer) (a : Answer) → Goes files plan (gives a) → IfSome files (λ fs. Reaches fs plan a)
 given None plan a g = tt
-given (Some fs) plan a g = ap either_answer (found-goes fs plan (gives a) g)
+given (Some fs) plan a g = at_end a g
 
 -- or to where it stops
-at_stop : (files : Option Files) (plan : Plan Answer) (a : Answer) → Goes files plan (stops a) → IfSome files (λ fs. answer_of plan fs ≡ a)
-unfolding answer_of found
-at_stop None plan a g = tt
-at_stop (Some fs) plan a g = ap either_answer (found-goes fs plan (stops a) g)
+stopped : (files : Option Files) (plan : Plan Answer) (a : Answer) → Goes files plan (stops a) → IfSome files (λ fs. Reaches fs plan a)
+stopped None plan a g = tt
+stopped (Some fs) plan a g = at_stop a g
 
 -- or to a file that cannot be read
 without_it : (files : Option Files) (plan : Plan Answer) (file : List ℕ) (next : List ℕ → Plan Answer) → Goes files plan (reads file next)
-    → IfSome files (λ fs. answer_of plan (without fs file) ≡ unread file)
-unfolding answer_of
+    → IfSome files (λ fs. Reaches (without fs file) plan (unread file))
 without_it None plan file next g = tt
-without_it (Some fs) plan file next g = ap either_answer (without-goes fs file next plan (reads file next) refl g)
+without_it (Some fs) plan file next g = without-goes fs file next plan (reads file next) refl g
 
 missing_it : (files : Option Files) (plan : Plan Answer) (file : List ℕ) (next : List ℕ → Plan Answer) → told files file ≡ Some None
-    → Goes files plan (reads file next) → IsSomeAnd files (λ fs. answer_of plan fs ≡ unread file)
-unfolding answer_of
+    → Goes files plan (reads file next) → IsSomeAnd files (λ fs. Reaches fs plan (unread file))
 missing_it None plan file next e g = absurd cc
-missing_it (Some fs) plan file next e g = let m : held fs file ≡ None = cc in ap either_answer (missing-goes fs file next plan m g)
+missing_it (Some fs) plan file next e g = let gone : held fs file ≡ None = cc in at_gap file next g gone
+
+-- an answer of a kind
+like : (plan : Plan Answer) (P : Answer → Type 0) (files : Option Files) (a : Answer) → P a → IfSome files (λ fs. Reaches fs plan a)
+    → IfSome files (λ fs. AnswersLike (Some plan) fs P)
+like plan P files a p = more files (λ fs h. (a, h, p))
 
 nothing : (o : Option (List ℕ)) → told_then [] o ≡ o
 nothing None = refl
@@ -89,28 +89,21 @@ data Says (a : Answer) (before after : Stored) (old new : Printed) : Status → 
   same : {s : Status} → s ≡ status_of a → Says a before after old new s
   not_written : Rose before.write_faults after.write_faults → IsDone a → Says a before after old new status.WriteFault
   not_printed : Rose old.faults new.faults → IsPrinted a → Says a before after old new status.OutFault
-  memory : Says a before after old new status.NoMemory
 
-kept : (a : Answer) (s : Status) (fs : Files) → s ≢ status.Done → s ≢ status.WriteFault → FilesAfter a s fs fs
-kept (done (Some file) text) status.Done fs n m = absurd (n refl)
-kept (done (Some file) text) status.WriteFault fs n m = absurd (m refl)
-kept (done (Some file) text) status.NoMemory fs n m = part-same file.0 file.1 fs fs (λ name. refl)
-kept (done (Some file) text) status.Fault fs n m = λ name. refl
-kept (done (Some file) text) status.Usage fs n m = λ name. refl
-kept (done (Some file) text) status.Limit fs n m = λ name. refl
-kept (done (Some file) text) status.ReadFault fs n m = λ name. refl
-kept (done (Some file) text) status.OutFault fs n m = λ name. refl
-kept (done (Some file) text) status.NotEnabled fs n m = λ name. refl
-kept (done None text) s fs n m = λ name. refl
-kept usage s fs n m = λ name. refl
-kept (unread file) s fs n m = λ name. refl
-kept (fault file first) s fs n m = λ name. refl
-kept (limit word count) s fs n m = λ name. refl
-kept (refused file line tokens text) s fs n m = λ name. refl
+kept : (plan : Plan Answer) (s : Status) (fs : Files) → s ≢ status.Done → s ≢ status.WriteFault → FilesAfter (Some plan) s fs fs
+kept plan status.Done fs n m = absurd (n refl)
+kept plan status.WriteFault fs n m = absurd (m refl)
+kept plan status.NoMemory fs n m = inl (λ name. refl)
+kept plan status.Fault fs n m = λ name. refl
+kept plan status.Usage fs n m = λ name. refl
+kept plan status.Limit fs n m = λ name. refl
+kept plan status.ReadFault fs n m = λ name. refl
+kept plan status.OutFault fs n m = λ name. refl
+kept plan status.NotEnabled fs n m = λ name. refl
 
 module _ (plan : Plan Answer) (before after : Stored) (old new : Printed) where
   cannot_read : (file : List ℕ) (next : List ℕ → Plan Answer) → Goes before.files plan (reads file next)
-      → Rose before.read_faults after.read_faults ⊎ (told before.files file ≡ Some None) → CannotRead (answer_of plan) before after file
+      → Rose before.read_faults after.read_faults ⊎ (told before.files file ≡ Some None) → CannotRead (Some plan) before after file
   cannot_read file next g (inl rose) = inr (rose, without_it before.files plan file next g)
   cannot_read file next g (inr e) = inl (missing_it before.files plan file next e g)
 
@@ -118,9 +111,9 @@ module _ (plan : Plan Answer) (before after : Stored) (old new : Printed) where
       → HasCause (Some plan) before after old new (end_status {T = T} (Err why))
   unfolding Unable
   unable_cause T (refusal.Fault file first) u =
-      more before.files (λ fs e. (file, first, e)) (at_stop before.files plan (fault file first) u)
+      more before.files (λ fs h. (file, first, h)) (stopped before.files plan (fault file first) u)
   unable_cause T (refusal.Limit word count) u =
-      more before.files (λ fs e. (word, count, e)) (at_stop before.files plan (limit word count) u)
+      more before.files (λ fs h. (word, count, h)) (stopped before.files plan (limit word count) u)
   unable_cause T (refusal.Unread file) u = (file, cannot_read file u.0 u.1 u.2)
   unable_cause T (refusal.Unwritten file) u = absurd u
   unable_cause T refusal.Unprinted u = absurd u
@@ -131,122 +124,147 @@ module _ (plan : Plan Answer) (before after : Stored) (old new : Printed) where
   pub ends_cause : {T : Type 0} (r : Result T Refusal) → Ends plan before after old new r
       → HasCause (Some plan) before after old new (end_status r)
   ends_cause r (wrote_all x file bytes g t o p) =
-      more before.files (λ fs e. subst IsDone (sym e) tt) (given before.files plan (done (Some (file, bytes)) []) g)
-  ends_cause r (showed_all x text g f p) = more before.files (λ fs e. subst IsDone (sym e) tt) (given before.files plan (done None text) g)
+      like plan IsDone before.files (done (Some (file, bytes)) []) tt (given before.files plan (done (Some (file, bytes)) []) g)
+  ends_cause r (showed_all x text g f p) =
+      like plan IsDone before.files (done None text) tt (given before.files plan (done None text) g)
   ends_cause {T} r (unable why u f p) = unable_cause T why u
   ends_cause r (wrote_part file bytes g t rose p) =
-      (rose, more before.files (λ fs e. subst IsDone (sym e) tt) (given before.files plan (done (Some (file, bytes)) []) g))
+      (rose, like plan IsDone before.files (done (Some (file, bytes)) []) tt (given before.files plan (done (Some (file, bytes)) []) g))
   ends_cause r (wrote_for_want file bytes g t p) = tt
   ends_cause r (showed_part text answer is g f rose b) =
-      (rose, more before.files (λ fs e. subst IsPrinted (sym e) (printed_is text answer is)) (given before.files plan answer g))
+      (rose, like plan IsPrinted before.files answer (printed_is text answer is) (given before.files plan answer g))
   ends_cause r (showed_for_want text answer is g f b) = tt
   ends_cause r (not_enabled file line tokens text g f p) =
-      more before.files (λ fs e. (file, line, tokens.items, text, e)) (given before.files plan (refused file line tokens.items text) g)
+      more before.files (λ fs h. (file, line, tokens.items, text, h)) (given before.files plan (refused file line tokens.items text) g)
+
+  -- over files: want of memory, or an answer and what the end says of it
+  Ended : Status → Files → Type 0
+  Ended s fs = (s ≡ status.NoMemory) ⊎ ((a : Answer) × Reaches fs plan a × Says a before after old new s)
+
+  ended : (s : Status) (a : Answer) → Says a before after old new s → IfSome before.files (λ fs. Reaches fs plan a)
+      → IfSome before.files (Ended s)
+  unfolding Ended
+  ended s a said = more before.files (λ fs h. inr (a, h, said))
+
+  wanting : IfSome before.files (Ended status.NoMemory)
+  unfolding Ended
+  wanting = always before.files (λ fs. inl refl)
 
   unable_says : (T : Type 0) (why : Refusal) → Unable plan before after why → (Rose before.read_faults after.read_faults → ⊥)
-      → IfSome before.files (λ fs. Says (answer_of plan fs) before after old new (end_status {T = T} (Err why)))
+      → IfSome before.files (Ended (end_status {T = T} (Err why)))
   unfolding Unable
   unable_says T (refusal.Fault file first) u calm =
-      more before.files (λ fs e. same (ap status_of (sym e))) (at_stop before.files plan (fault file first) u)
+      ended status.Fault (fault file first) (same refl) (stopped before.files plan (fault file first) u)
   unable_says T (refusal.Limit word count) u calm =
-      more before.files (λ fs e. same (ap status_of (sym e))) (at_stop before.files plan (limit word count) u)
+      ended status.Limit (limit word count) (same refl) (stopped before.files plan (limit word count) u)
   unable_says T (refusal.Unread file) u calm = at u.2
     where
-      is_missing : (files : Option Files) → IsSomeAnd files (λ fs. answer_of plan fs ≡ unread file)
-          → IfSome files (λ fs. Says (answer_of plan fs) before after old new status.ReadFault)
-      is_missing None m = tt
-      is_missing (Some fs) m = same (ap status_of (sym m))
+      reached : (files : Option Files) → IsSomeAnd files (λ fs. Reaches fs plan (unread file))
+          → IfSome files (λ fs. Reaches fs plan (unread file))
+      reached None h = tt
+      reached (Some fs) h = h
 
-      at : Rose before.read_faults after.read_faults ⊎ (told before.files file ≡ Some None)
-          → IfSome before.files (λ fs. Says (answer_of plan fs) before after old new status.ReadFault)
+      at : Rose before.read_faults after.read_faults ⊎ (told before.files file ≡ Some None) → IfSome before.files (Ended status.ReadFault)
       at (inl rose) = absurd (calm rose)
-      at (inr e) = is_missing before.files (missing_it before.files plan file u.0 e u.1)
+      at (inr e) = ended status.ReadFault (unread file) (same refl)
+          (reached before.files (missing_it before.files plan file u.0 e u.1))
   unable_says T (refusal.Unwritten file) u calm = absurd u
   unable_says T refusal.Unprinted u calm = absurd u
   unable_says T (refusal.NotEnabled file line tokens) u calm = absurd u
-  unable_says T refusal.NoMemory u calm = always before.files (λ fs. memory)
+  unable_says T refusal.NoMemory u calm = wanting
 
   says : {T : Type 0} (r : Result T Refusal) → Ends plan before after old new r → (Rose before.read_faults after.read_faults → ⊥)
-      → IfSome before.files (λ fs. Says (answer_of plan fs) before after old new (end_status r))
+      → IfSome before.files (Ended (end_status r))
   says r (wrote_all x file bytes g t o p) calm =
-      more before.files (λ fs e. same (ap status_of (sym e))) (given before.files plan (done (Some (file, bytes)) []) g)
+      ended status.Done (done (Some (file, bytes)) []) (same refl) (given before.files plan (done (Some (file, bytes)) []) g)
   says r (showed_all x text g f p) calm =
-      more before.files (λ fs e. same (ap status_of (sym e))) (given before.files plan (done None text) g)
+      ended status.Done (done None text) (same refl) (given before.files plan (done None text) g)
   says {T} r (unable why u f p) calm = unable_says T why u calm
-  says r (wrote_part file bytes g t rose p) calm =
-      more before.files (λ fs e. not_written rose (subst IsDone (sym e) tt)) (given before.files plan (done (Some (file, bytes)) []) g)
-  says r (wrote_for_want file bytes g t p) calm = always before.files (λ fs. memory)
+  says r (wrote_part file bytes g t rose p) calm = ended status.WriteFault (done (Some (file, bytes)) []) (not_written rose tt)
+      (given before.files plan (done (Some (file, bytes)) []) g)
+  says r (wrote_for_want file bytes g t p) calm = wanting
   says r (showed_part text answer is g f rose b) calm =
-      more before.files (λ fs e. not_printed rose (subst IsPrinted (sym e) (printed_is text answer is))) (given before.files plan answer g)
-  says r (showed_for_want text answer is g f b) calm = always before.files (λ fs. memory)
-  says r (not_enabled file line tokens text g f p) calm =
-      more before.files (λ fs e. same (ap status_of (sym e))) (given before.files plan (refused file line tokens.items text) g)
+      ended status.OutFault answer (not_printed rose (printed_is text answer is)) (given before.files plan answer g)
+  says r (showed_for_want text answer is g f b) calm = wanting
+  says r (not_enabled file line tokens text g f p) calm = ended status.NotEnabled (refused file line tokens.items text) (same refl)
+      (given before.files plan (refused file line tokens.items text) g)
 
   -- where no call failed, the status is the answer's
-  status_said : (a : Answer) (s : Status) → NothingFailed before after old new → Says a before after old new s
-      → (s ≡ status.NoMemory) ⊎ (s ≡ status_of a)
-  status_said a s calm (same e) = inr e
+  status_said : (a : Answer) (s : Status) → NothingFailed before after old new → Says a before after old new s → s ≡ status_of a
+  status_said a s calm (same e) = e
   status_said a s calm (not_written rose d) = absurd (calm.writing rose)
   status_said a s calm (not_printed rose d) = absurd (calm.printing rose)
-  status_said a s calm memory = inl refl
 
   -- an answer that neither writes nor prints has its status, where no read failed
-  refusal_said : (a : Answer) (s : Status) → (IsPrinted a → ⊥) → (IsDone a → ⊥) → Says a before after old new s
-      → (s ≡ status.NoMemory) ⊎ (s ≡ status_of a)
-  refusal_said a s n m (same e) = inr e
+  refusal_said : (a : Answer) (s : Status) → (IsPrinted a → ⊥) → (IsDone a → ⊥) → Says a before after old new s → s ≡ status_of a
+  refusal_said a s n m (same e) = e
   refusal_said a s n m (not_written rose d) = absurd (m d)
   refusal_said a s n m (not_printed rose d) = absurd (n d)
-  refusal_said a s n m memory = inl refl
 
   enabled_said : (a : Answer) (s : Status) → (IsDone a → ⊥) → (Rose old.faults new.faults → ⊥) → Says a before after old new s
-      → (s ≡ status.NoMemory) ⊎ (s ≡ status_of a)
-  enabled_said a s m calm (same e) = inr e
+      → s ≡ status_of a
+  enabled_said a s m calm (same e) = e
   enabled_said a s m calm (not_written rose d) = absurd (m d)
   enabled_said a s m calm (not_printed rose d) = absurd (calm rose)
-  enabled_said a s m calm memory = inl refl
+
+  -- of an answer that is told, where the end says so of each answer
+  said_of : (s : Status) (fs : Files) (b : Answer) → ((a : Answer) → a ≡ b → Says a before after old new s → s ≡ status_of a)
+      → Ended s fs → Reaches fs plan b → Unless s (status_of b)
+  unfolding Ended
+  said_of s fs b said (inl e) h = inl e
+  said_of s fs b said (inr t) h =
+      let same_answer : t.0 ≡ b = one_answer fs plan t.0 b t.1 h in inr (said t.0 same_answer t.2 ∙ ap status_of same_answer)
+
+  status_ended : (s : Status) (fs : Files) → NothingFailed before after old new → Ended s fs → HasStatus (Some plan) fs s
+  unfolding Ended
+  status_ended s fs calm (inl e) = inl e
+  status_ended s fs calm (inr t) = inr (t.0, t.1, status_said t.0 s calm t.2)
 
   pub ends_status : {T : Type 0} (r : Result T Refusal) → Ends plan before after old new r → NothingFailed before after old new
-      → IfSome before.files (λ fs. (end_status r ≡ status.NoMemory) ⊎ (end_status r ≡ status_of (answer_of plan fs)))
-  ends_status r h calm = more before.files (λ fs s. status_said (answer_of plan fs) (end_status r) calm s) (says r h calm.reading)
+      → IfSome before.files (λ fs. HasStatus (Some plan) fs (end_status r))
+  ends_status r h calm = more before.files (λ fs t. status_ended (end_status r) fs calm t) (says r h calm.reading)
 
   pub ends_fault : {T : Type 0} (r : Result T Refusal) → Ends plan before after old new r
       → (Rose before.read_faults after.read_faults → ⊥) → IfSome before.files (λ fs. (file : List ℕ) (first : Fault)
-      → answer_of plan fs ≡ fault file first → (end_status r ≡ status.NoMemory) ⊎ (end_status r ≡ status.Fault))
-  ends_fault r h calm = more before.files (λ fs s file first e. subst (λ a. (end_status r ≡ status.NoMemory)
-      ⊎ (end_status r ≡ status_of a)) e (refusal_said (answer_of plan fs) (end_status r) (λ p. subst IsPrinted e p)
-      (λ p. subst IsDone e p) s)) (says r h calm)
+      → Reaches fs plan (fault file first) → Unless (end_status r) status.Fault)
+  ends_fault r h calm = more before.files (λ fs t file first k. said_of (end_status r) fs (fault file first)
+      (λ a e s. refusal_said a (end_status r) (λ p. subst IsPrinted e p) (λ p. subst IsDone e p) s) t k) (says r h calm)
 
   pub ends_limit : {T : Type 0} (r : Result T Refusal) → Ends plan before after old new r
       → (Rose before.read_faults after.read_faults → ⊥) → IfSome before.files (λ fs. (word : Limit) (count : ℕ)
-      → answer_of plan fs ≡ limit word count → (end_status r ≡ status.NoMemory) ⊎ (end_status r ≡ status.Limit))
-  ends_limit r h calm = more before.files (λ fs s word count e. subst (λ a. (end_status r ≡ status.NoMemory)
-      ⊎ (end_status r ≡ status_of a)) e (refusal_said (answer_of plan fs) (end_status r) (λ p. subst IsPrinted e p)
-      (λ p. subst IsDone e p) s)) (says r h calm)
+      → Reaches fs plan (limit word count) → Unless (end_status r) status.Limit)
+  ends_limit r h calm = more before.files (λ fs t word count k. said_of (end_status r) fs (limit word count)
+      (λ a e s. refusal_said a (end_status r) (λ p. subst IsPrinted e p) (λ p. subst IsDone e p) s) t k) (says r h calm)
 
   pub ends_not_enabled : {T : Type 0} (r : Result T Refusal) → Ends plan before after old new r
       → (Rose before.read_faults after.read_faults → ⊥) → (Rose old.faults new.faults → ⊥)
-      → IfSome before.files (λ fs. (file : List ℕ) (line : ℕ) (tokens text : List ℕ) → answer_of plan fs ≡ refused file line tokens text
-      → (end_status r ≡ status.NoMemory) ⊎ (end_status r ≡ status.NotEnabled))
+      → IfSome before.files (λ fs. (file : List ℕ) (line : ℕ) (tokens text : List ℕ) → Reaches fs plan (refused file line tokens text)
+      → Unless (end_status r) status.NotEnabled)
   ends_not_enabled r h calm quiet =
-      more before.files (λ fs s file line tokens text e. subst (λ a. (end_status r ≡ status.NoMemory)
-      ⊎ (end_status r ≡ status_of a)) e (enabled_said (answer_of plan fs) (end_status r) (λ p. subst IsDone e p) quiet s)) (says r h calm)
+      more before.files (λ fs t file line tokens text k. said_of (end_status r) fs (refused file line tokens text)
+      (λ a e s. enabled_said a (end_status r) (λ p. subst IsDone e p) quiet s) t k) (says r h calm)
 
   kept_told : (s : Status) → after.files ≡ before.files → s ≢ status.Done → s ≢ status.WriteFault
-      → IfSome before.files (λ fs. Told before.files after.files (FilesAfter (answer_of plan fs) s))
+      → IfSome before.files (λ fs. Told before.files after.files (FilesAfter (Some plan) s))
   kept_told s e n m = at before.files after.files e
     where
-      at : (one two : Option Files) → two ≡ one → IfSome one (λ fs. Told one two (FilesAfter (answer_of plan fs) s))
+      at : (one two : Option Files) → two ≡ one → IfSome one (λ fs. Told one two (FilesAfter (Some plan) s))
       at None two q = tt
-      at (Some fs) two q = subst (λ f. Told (Some fs) f (FilesAfter (answer_of plan fs) s)) (sym q) (kept (answer_of plan fs) s fs n m)
+      at (Some fs) two q = subst (λ f. Told (Some fs) f (FilesAfter (Some plan) s)) (sym q) (kept plan s fs n m)
 
-  put_told : (s : Status) (a : Answer) (P : Files → Files → Type 0) → ((fs gs : Files) → P fs gs → FilesAfter a s fs gs)
-      → Told before.files after.files P → IfSome before.files (λ fs. answer_of plan fs ≡ a)
-      → IfSome before.files (λ fs. Told before.files after.files (FilesAfter (answer_of plan fs) s))
-  put_told s a P f t = more before.files (λ fs e. subst (λ x. Told before.files after.files (FilesAfter x s)) (sym e)
-      (told-weaker before.files after.files f t))
+  put_told : (s : Status) (a : Answer) (P : Files → Files → Type 0)
+      → ((fs gs : Files) → Reaches fs plan a → P fs gs → FilesAfter (Some plan) s fs gs) → Told before.files after.files P
+      → IfSome before.files (λ fs. Reaches fs plan a) → IfSome before.files (λ fs. Told before.files after.files (FilesAfter (Some plan) s))
+  put_told s a P f = at before.files after.files
+    where
+      at : (one two : Option Files) → Told one two P → IfSome one (λ fs. Reaches fs plan a)
+          → IfSome one (λ fs. Told one two (FilesAfter (Some plan) s))
+      at None two t h = tt
+      at (Some fs) None t h = absurd t
+      at (Some fs) (Some gs) t h = f fs gs h t
 
   unable_files : (T : Type 0) (why : Refusal) → Unable plan before after why → after.files ≡ before.files
-      → IfSome before.files (λ fs. Told before.files after.files (FilesAfter (answer_of plan fs) (end_status {T = T} (Err why))))
+      → IfSome before.files (λ fs. Told before.files after.files (FilesAfter (Some plan) (end_status {T = T} (Err why))))
   unfolding Unable
   unable_files T (refusal.Fault file first) u e = kept_told status.Fault e (λ q. cc) (λ q. cc)
   unable_files T (refusal.Limit word count) u e = kept_told status.Limit e (λ q. cc) (λ q. cc)
@@ -265,25 +283,26 @@ module _ (plan : Plan Answer) (before after : Stored) (old new : Printed) where
 
   -- what each name holds
   pub ends_files : {T : Type 0} (r : Result T Refusal) → Ends plan before after old new r
-      → IfSome before.files (λ fs. Told before.files after.files (FilesAfter (answer_of plan fs) (end_status r)))
+      → IfSome before.files (λ fs. Told before.files after.files (FilesAfter (Some plan) (end_status r)))
   ends_files r (wrote_all x file bytes g t o p) =
-      put_told status.Done (done (Some (file, bytes)) []) (Holds file bytes) (λ fs gs h. h) t
+      put_told status.Done (done (Some (file, bytes)) []) (Holds file bytes) (λ fs gs h l. (done (Some (file, bytes)) [], h, l)) t
       (given before.files plan (done (Some (file, bytes)) []) g)
   ends_files r (showed_all x text g e p) =
-      put_told status.Done (done None text) SameFiles (λ fs gs h. h) (same_told e) (given before.files plan (done None text) g)
+      put_told status.Done (done None text) SameFiles (λ fs gs h l. (done None text, h, l)) (same_told e)
+      (given before.files plan (done None text) g)
   ends_files {T} r (unable why u e p) = unable_files T why u e
   ends_files r (wrote_part file bytes g t rose p) =
-      put_told status.WriteFault (done (Some (file, bytes)) []) (HoldsPart file bytes) (λ fs gs h. h) t
+      put_told status.WriteFault (done (Some (file, bytes)) []) (HoldsPart file bytes) (λ fs gs h l. (done (Some (file, bytes)) [], h, l)) t
       (given before.files plan (done (Some (file, bytes)) []) g)
   ends_files r (wrote_for_want file bytes g t p) =
-      put_told status.NoMemory (done (Some (file, bytes)) []) (HoldsPart file bytes) (λ fs gs h. h) t
-      (given before.files plan (done (Some (file, bytes)) []) g)
+      put_told status.NoMemory (done (Some (file, bytes)) []) (HoldsPart file bytes)
+      (λ fs gs h l. inr (done (Some (file, bytes)) [], h, l)) t (given before.files plan (done (Some (file, bytes)) []) g)
   ends_files r (showed_part text answer is g e rose b) = kept_told status.OutFault e (λ q. cc) (λ q. cc)
   ends_files r (showed_for_want text answer is g e b) = kept_told status.NoMemory e (λ q. cc) (λ q. cc)
   ends_files r (not_enabled file line tokens text g e p) = kept_told status.NotEnabled e (λ q. cc) (λ q. cc)
 
   unable_print : (T : Type 0) (why : Refusal) → Unable plan before after why → new.bytes ≡ old.bytes
-      → IfSome before.files (λ fs. PrintedAfter (answer_of plan fs) (end_status {T = T} (Err why)) old new)
+      → IfSome before.files (λ fs. PrintedAfter (Some plan) fs (end_status {T = T} (Err why)) old new)
   unfolding Unable
   unable_print T (refusal.Fault file first) u p = always before.files (λ fs. p)
   unable_print T (refusal.Limit word count) u p = always before.files (λ fs. p)
@@ -291,39 +310,32 @@ module _ (plan : Plan Answer) (before after : Stored) (old new : Printed) where
   unable_print T (refusal.Unwritten file) u p = absurd u
   unable_print T refusal.Unprinted u p = absurd u
   unable_print T (refusal.NotEnabled file line tokens) u p = absurd u
-  unable_print T refusal.NoMemory u p = always before.files (λ fs. none_of_it (printed_by (answer_of plan fs)) old new p)
-
-  part_printed : (s : Status) (text : List ℕ) (answer : Answer) → Prints text answer → Begins text old new
-      → IfSome before.files (λ fs. answer_of plan fs ≡ answer) → IfSome before.files (λ fs. Begins (printed_by (answer_of plan fs)) old new)
-  part_printed s text answer is b =
-      more before.files (λ fs e. subst (λ t. Begins t old new) (text_is text answer is ∙ ap printed_by (sym e)) b)
+  unable_print T refusal.NoMemory u p = always before.files (λ fs. inl p)
 
   -- what was printed
   pub ends_print : {T : Type 0} (r : Result T Refusal) → Ends plan before after old new r
-      → IfSome before.files (λ fs. PrintedAfter (answer_of plan fs) (end_status r) old new)
-  ends_print r (wrote_all x file bytes g t o p) = more before.files (λ fs e. p ∙ sym (nothing old.bytes)
-      ∙ ap (λ a. told_then (printed_by a) old.bytes) (sym e)) (given before.files plan (done (Some (file, bytes)) []) g)
-  ends_print r (showed_all x text g f p) = more before.files (λ fs e. p
-      ∙ ap (λ a. told_then (printed_by a) old.bytes) (sym e)) (given before.files plan (done None text) g)
+      → IfSome before.files (λ fs. PrintedAfter (Some plan) fs (end_status r) old new)
+  ends_print r (wrote_all x file bytes g t o p) =
+      like plan (PrintsWhole old new) before.files (done (Some (file, bytes)) []) (p ∙ sym (nothing old.bytes))
+      (given before.files plan (done (Some (file, bytes)) []) g)
+  ends_print r (showed_all x text g f p) =
+      like plan (PrintsWhole old new) before.files (done None text) p (given before.files plan (done None text) g)
   ends_print {T} r (unable why u f p) = unable_print T why u p
   ends_print r (wrote_part file bytes g t rose p) = always before.files (λ fs. p)
-  ends_print r (wrote_for_want file bytes g t p) = always before.files (λ fs. none_of_it (printed_by (answer_of plan fs)) old new p)
-  ends_print r (showed_part text answer is g f rose b) = part_printed status.OutFault text answer is b (given before.files plan answer g)
-  ends_print r (showed_for_want text answer is g f b) = part_printed status.NoMemory text answer is b (given before.files plan answer g)
-  ends_print r (not_enabled file line tokens text g f p) = more before.files (λ fs e. p
-      ∙ ap (λ a. told_then (printed_by a) old.bytes) (sym e)) (given before.files plan (refused file line tokens.items text) g)
-
-  at_given : (a : Answer) → Goes before.files plan (gives a) → IsAnswer (Some plan) before.files a
-  at_given a g = record { told = given before.files plan a g; possible = inl g }
-
-  at_stopped : (a : Answer) → Goes before.files plan (stops a) → IsAnswer (Some plan) before.files a
-  at_stopped a g = record { told = at_stop before.files plan a g; possible = inr g }
+  ends_print r (wrote_for_want file bytes g t p) = always before.files (λ fs. inl p)
+  ends_print r (showed_part text answer is g f rose b) = like plan (PrintsPart old new) before.files answer
+      (subst (λ t. Begins t old new) (text_is text answer is) b) (given before.files plan answer g)
+  ends_print r (showed_for_want text answer is g f b) = more before.files (λ fs h. inr h)
+      (like plan (PrintsPart old new) before.files answer (subst (λ t. Begins t old new) (text_is text answer is) b)
+      (given before.files plan answer g))
+  ends_print r (not_enabled file line tokens text g f p) = like plan (PrintsWhole old new) before.files
+      (refused file line tokens.items text) p (given before.files plan (refused file line tokens.items text) g)
 
   unable_line : (T : Type 0) (why : Refusal) → Unable plan before after why
       → IsLine (Some plan) before after (end_status {T = T} (Err why)) (end_line {T = T} (Err why))
   unfolding Unable refused_line
-  unable_line T (refusal.Fault file first) u = (file, first, refl, at_stopped (fault file first) u)
-  unable_line T (refusal.Limit which count) u = (which, count, refl, at_stopped (limit which count) u)
+  unable_line T (refusal.Fault file first) u = (file, first, refl, inr u)
+  unable_line T (refusal.Limit which count) u = (which, count, refl, inr u)
   unable_line T (refusal.Unread file) u = (file, refl, cannot_read file u.0 u.1 u.2, (u.0, u.1))
   unable_line T (refusal.Unwritten file) u = absurd u
   unable_line T refusal.Unprinted u = absurd u
@@ -337,12 +349,11 @@ module _ (plan : Plan Answer) (before after : Stored) (old new : Printed) where
   ends_line r (wrote_all x file bytes g t o p) = refl
   ends_line r (showed_all x text g f p) = refl
   ends_line {T} r (unable why u f p) = unable_line T why u
-  ends_line r (wrote_part file bytes g t rose p) = (file, bytes, refl, at_given (done (Some (file, bytes)) []) g)
+  ends_line r (wrote_part file bytes g t rose p) = (file, bytes, refl, inl g)
   ends_line r (wrote_for_want file bytes g t p) = refl
   ends_line r (showed_part text answer is g f rose b) = refl
   ends_line r (showed_for_want text answer is g f b) = refl
-  ends_line r (not_enabled file line tokens text g f p) =
-      (file, line, tokens.items, text, refl, at_given (refused file line tokens.items text) g)
+  ends_line r (not_enabled file line tokens text g f p) = (file, line, tokens.items, text, refl, inl g)
 
   -- where every answer writes a file, no file is open after Done
   pub ends_closed : {T : Type 0} (target : List ℕ) (r : Result T Refusal) → AllGiven (WritesTo target) plan

@@ -1,10 +1,16 @@
+pub mod SystemLaws
 pub mod Puts
 pub mod Emitted
 pub mod PlanLaws
 pub mod StageLaws
 pub mod ReadLaws
+pub mod ReadLoops
+pub mod SystemTexts
+pub mod TreeTexts
+pub mod OneStreams
 pub mod FlatCodes
 pub mod EndLaws
+pub mod BuildLaws
 pub mod RunLaws
 pub mod WordReading
 pub mod ErrLines

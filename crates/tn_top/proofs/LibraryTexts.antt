@@ -1,18 +1,16 @@
 -- Of reading module texts, and joining them to a library text.
-use Rattle.std.proofs.Common.{◌≡◌, ℕ, ◌<◌, ◌≤◌, ◌+◌, suc, List, ◌∷◌, length, drop, get_or, drop-cons, Result, Ok, Err, sym, ap, ◌∙◌}
-use Rattle.std.proofs.Common.{subst, arith, lt-ltb, cond, false}
+use Rattle.std.proofs.Common.{◌≡◌, ℕ, ◌<◌, ◌≤◌, List, length, Result, Ok, Err, sym, ap}
+use Rattle.std.proofs.Common.{arith, lt-ltb, cond, false}
 use Rattle.std.specs.Prelude.{nat_lt}
 use Rattle.std.proofs.lemmas.Bool.Decides.{nat_tests}
 use Rattle.tn_text.specs.declared.faults.Fault.{Fault}
 use Rattle.tn_text.specs.declared.limits.TheConstants.{FILE_LIMIT, MODULE_LIMIT}
 use Rattle.tn_text.specs.declared.limits.Limit.TheVariants.{File, Modules}
-use Rattle.tn_io.specs.Stores.{Stored}
-use Rattle.tn_module.specs.Modules.{Parts}
 use Rattle.tn_top.specs.Plans.{Answer, fault, limit, Plan, stops, then_plan, at_once, each}
-use Rattle.tn_top.specs.Commands.{limited_text, or_fault, module_plan, library_text, library_plan}
-use Rattle.tn_top.proofs.StageLaws.{Walked}
+use Rattle.tn_top.specs.ModulePlans.{or_fault, module_plan}
+use Rattle.tn_top.specs.Commands.{limited_text, library_text, library_plan}
 
-ltb-false-of : (a b : ℕ) → b ≤ a → nat_lt a b ≡ false
+pub ltb-false-of : (a b : ℕ) → b ≤ a → nat_lt a b ≡ false
 ltb-false-of a b h = grind (arith, nat_tests)
 
 -- what was given of the text of a file
@@ -44,13 +42,3 @@ pub sources-above : (sources : List (List ℕ)) → MODULE_LIMIT < length source
 sources-above sources h =
     ap (λ b. cond {A = Plan (List ℕ)} b (stops (limit Modules (length sources)))
     (then_plan (each module_plan sources) (λ modules. at_once (library_text modules)))) (lt-ltb MODULE_LIMIT (length sources) h)
-
--- the next source of a loop
-pub next : (names : List (List ℕ)) (i : ℕ) (name : List ℕ) (so_far : List Parts) (before now : Stored) → i < length names
-    → name ≡ get_or names i name → Walked module_plan names (drop i names) so_far before now
-    → Walked module_plan names (name ∷ drop (i + 1) names) so_far before now
-next names i name so_far before now inside is w =
-    let one : suc i ≡ i + 1 = omega arith in
-    let cut : drop i names ≡ name ∷ drop (i + 1) names =
-    drop-cons names i name inside ∙ ap (λ k. get_or names i name ∷ drop k names) one ∙ ap (λ n. n ∷ drop (i + 1) names) (sym is) in
-    subst (λ rest. Walked module_plan names rest so_far before now) cut w

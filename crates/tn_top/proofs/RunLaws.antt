@@ -9,8 +9,8 @@ use Rattle.tn_top.specs.declared.refusals.Refusal.{Refusal}
 use Rattle.tn_top.specs.declared.statuses.Status.{Status}
 use Rattle.tn_top.specs.declared.statuses.Status.TheVariants as status
 use Rattle.tn_top.specs.Plans.{Answer, fault, limit, refused, Plan}
-use Rattle.tn_top.specs.Commands.{answer_to}
-use Rattle.tn_top.specs.Outcomes.{Told, HasCause, NothingFailed, Unless, FilesAfter, PrintedAfter, Writes, status_of}
+use Rattle.tn_top.specs.Commands.{Answers}
+use Rattle.tn_top.specs.Outcomes.{Told, HasCause, NothingFailed, HasStatus, Unless, FilesAfter, PrintedAfter, Writes}
 use Rattle.tn_top.specs.Refusals.{end_status, end_line}
 use Rattle.tn_top.specs.ErrLines.{IsLine}
 use Rattle.tn_top.specs.Inner.Ends.{Ends}
@@ -28,43 +28,43 @@ module _
     pub run_cause : HasCause asked before after old new s
     run_cause = carried (λ a t. HasCause a before after old new t) (ends_cause plan before after old new r ends)
 
-    pub run_status : NothingFailed before after old new → IfSome before.files (λ fs. Unless s (status_of (answer_to asked fs)))
+    pub run_status : NothingFailed before after old new → IfSome before.files (λ fs. HasStatus asked fs s)
     run_status = carried (λ a t. NothingFailed before after old new
-        → IfSome before.files (λ fs. Unless t (status_of (answer_to a fs)))) (ends_status plan before after old new r ends)
+        → IfSome before.files (λ fs. HasStatus a fs t)) (ends_status plan before after old new r ends)
 
     pub run_fault : (Rose before.read_faults after.read_faults → ⊥)
-        → IfSome before.files (λ fs. (file : List ℕ) (first : Fault) → answer_to asked fs ≡ fault file first → Unless s status.Fault)
+        → IfSome before.files (λ fs. (file : List ℕ) (first : Fault) → Answers asked fs (fault file first) → Unless s status.Fault)
     run_fault =
         carried (λ a t. (Rose before.read_faults after.read_faults → ⊥)
-        → IfSome before.files (λ fs. (file : List ℕ) (first : Fault) → answer_to a fs ≡ fault file first → Unless t status.Fault))
+        → IfSome before.files (λ fs. (file : List ℕ) (first : Fault) → Answers a fs (fault file first) → Unless t status.Fault))
         (ends_fault plan before after old new r ends)
 
     pub run_limit : (Rose before.read_faults after.read_faults → ⊥)
-        → IfSome before.files (λ fs. (which : Limit) (count : ℕ) → answer_to asked fs ≡ limit which count → Unless s status.Limit)
+        → IfSome before.files (λ fs. (which : Limit) (count : ℕ) → Answers asked fs (limit which count) → Unless s status.Limit)
     run_limit =
         carried (λ a t. (Rose before.read_faults after.read_faults → ⊥)
-        → IfSome before.files (λ fs. (which : Limit) (count : ℕ) → answer_to a fs ≡ limit which count → Unless t status.Limit))
+        → IfSome before.files (λ fs. (which : Limit) (count : ℕ) → Answers a fs (limit which count) → Unless t status.Limit))
         (ends_limit plan before after old new r ends)
 
     pub run_not_enabled : (Rose before.read_faults after.read_faults → ⊥) → (Rose old.faults new.faults → ⊥)
-        → IfSome before.files (λ fs. (file : List ℕ) (line : ℕ) (tokens text : List ℕ) → answer_to asked fs ≡ refused file line tokens text
+        → IfSome before.files (λ fs. (file : List ℕ) (line : ℕ) (tokens text : List ℕ) → Answers asked fs (refused file line tokens text)
         → Unless s status.NotEnabled)
     run_not_enabled =
         carried (λ a t. (Rose before.read_faults after.read_faults → ⊥) → (Rose old.faults new.faults → ⊥)
-        → IfSome before.files (λ fs. (file : List ℕ) (line : ℕ) (tokens text : List ℕ) → answer_to a fs ≡ refused file line tokens text
+        → IfSome before.files (λ fs. (file : List ℕ) (line : ℕ) (tokens text : List ℕ) → Answers a fs (refused file line tokens text)
         → Unless t status.NotEnabled))
         (ends_not_enabled plan before after old new r ends)
 
-    pub run_files : IfSome before.files (λ fs. Told before.files after.files (FilesAfter (answer_to asked fs) s))
-    run_files = carried (λ a t. IfSome before.files (λ fs. Told before.files after.files (FilesAfter (answer_to a fs) t)))
+    pub run_files : IfSome before.files (λ fs. Told before.files after.files (FilesAfter asked s))
+    run_files = carried (λ a t. IfSome before.files (λ fs. Told before.files after.files (FilesAfter a t)))
         (ends_files plan before after old new r ends)
 
     pub run_closed : (target : List ℕ) → Writes asked target → s ≡ status.Done → after.opened ≡ None
     run_closed = carried (λ a t. (target : List ℕ) → Writes a target → t ≡ status.Done
         → after.opened ≡ None) (λ target w. ends_closed plan before after old new target r w ends)
 
-    pub run_print : IfSome before.files (λ fs. PrintedAfter (answer_to asked fs) s old new)
-    run_print = carried (λ a t. IfSome before.files (λ fs. PrintedAfter (answer_to a fs) t old new))
+    pub run_print : IfSome before.files (λ fs. PrintedAfter asked fs s old new)
+    run_print = carried (λ a t. IfSome before.files (λ fs. PrintedAfter a fs t old new))
         (ends_print plan before after old new r ends)
 
     pub run_line : IsLine asked before after s (end_line r)
@@ -73,17 +73,17 @@ module _
 -- all that holds of a command that ended
 pub record Runs (asked : Option (Plan Answer)) (before after : Stored) (old new : Printed) (s : Status) : Type 0 where
   pub cause : HasCause asked before after old new s
-  pub status_is : NothingFailed before after old new → IfSome before.files (λ fs. Unless s (status_of (answer_to asked fs)))
+  pub status_is : NothingFailed before after old new → IfSome before.files (λ fs. HasStatus asked fs s)
   pub fault : (Rose before.read_faults after.read_faults → ⊥)
-      → IfSome before.files (λ fs. (file : List ℕ) (first : Fault) → answer_to asked fs ≡ fault file first → Unless s status.Fault)
+      → IfSome before.files (λ fs. (file : List ℕ) (first : Fault) → Answers asked fs (fault file first) → Unless s status.Fault)
   pub limit : (Rose before.read_faults after.read_faults → ⊥)
-      → IfSome before.files (λ fs. (which : Limit) (count : ℕ) → answer_to asked fs ≡ limit which count → Unless s status.Limit)
+      → IfSome before.files (λ fs. (which : Limit) (count : ℕ) → Answers asked fs (limit which count) → Unless s status.Limit)
   pub not_enabled : (Rose before.read_faults after.read_faults → ⊥) → (Rose old.faults new.faults → ⊥)
-      → IfSome before.files (λ fs. (file : List ℕ) (line : ℕ) (tokens text : List ℕ) → answer_to asked fs ≡ refused file line tokens text
+      → IfSome before.files (λ fs. (file : List ℕ) (line : ℕ) (tokens text : List ℕ) → Answers asked fs (refused file line tokens text)
       → Unless s status.NotEnabled)
-  pub files : IfSome before.files (λ fs. Told before.files after.files (FilesAfter (answer_to asked fs) s))
+  pub files : IfSome before.files (λ fs. Told before.files after.files (FilesAfter asked s))
   pub closed : (target : List ℕ) → Writes asked target → s ≡ status.Done → after.opened ≡ None
-  pub print : IfSome before.files (λ fs. PrintedAfter (answer_to asked fs) s old new)
+  pub print : IfSome before.files (λ fs. PrintedAfter asked fs s old new)
 
 pub runs : {T : Type 0} (asked : Option (Plan Answer)) (plan : Plan Answer) → asked ≡ Some plan → (before after : Stored)
     (old new : Printed)

@@ -1,12 +1,15 @@
 -- Of stages, one after the other.
 use Rattle.std.proofs.Common.{◌≡◌, ℕ, ◌≤◌, ◌⊎◌, inl, inr, List, [], ◌∷◌, ◌++◌, Some, None, Result, Ok, Err, IfOk, IfErr, refl, sym, ap}
-use Rattle.std.proofs.Common.{◌∙◌, subst, arith}
+use Rattle.std.proofs.Common.{◌∙◌, subst, arith, Vec, Global}
 use Rattle.tn_text.specs.Counts.{Rose}
 use Rattle.tn_io.specs.Stores.{Stored, told}
 use Rattle.tn_top.specs.declared.refusals.Refusal.{Refusal}
 use Rattle.tn_top.specs.declared.refusals.Refusal.TheVariants.{Fault, Limit, Unread, Unwritten, Unprinted, NotEnabled, NoMemory}
-use Rattle.tn_top.specs.Plans.{Answer, fault, limit, Plan, gives, stops, reads, then_plan, at_once, each_from, each, Goes, stays}
-use Rattle.tn_top.specs.Inner.Stages.{Unable, Staged, Makes}
+use Rattle.tn_system.specs.Sources.{Sources}
+use Rattle.tn_system.specs.Systems.{SystemState}
+use Rattle.tn_top.specs.Plans.{Answer, fault, limit, Plan, gives, stops, reads, settles, then_plan, at_once, each_from, each, Goes, stays}
+use Rattle.tn_top.specs.Plans.{settles_on, settles_not}
+use Rattle.tn_top.specs.Inner.Stages.{Unable, Staged, Makes, Settles}
 use Rattle.tn_top.proofs.PlanLaws.{goes-joined, goes-then}
 
 rose-later : (a b c : ℕ) → a ≤ b → Rose b c → Rose a c
@@ -112,6 +115,67 @@ staged-made seen made s (Err (Unwritten file)) h = absurd h
 staged-made seen made s (Err Unprinted) h = absurd h
 staged-made seen made s (Err (NotEnabled file line tokens)) h = absurd h
 staged-made seen made s (Err NoMemory) h = record { ok = tt; err = tt; same = refl; count = omega arith }
+
+-- a file is read, and something made of its text
+module _ {T A : Type 0} (seen : T → A) (made : List ℕ → Result A Answer) (file : List ℕ) (before after : Stored) where
+  pub staged-read : (text : Vec ℕ Global) (result : Result T Refusal)
+      → Staged {T = Vec ℕ Global} (λ t. t.items) (reads file gives) before after (Ok text) → Makes seen (made text.items) result
+      → Staged seen (then_plan (reads file gives) (λ t. at_once (made t))) before after result
+  staged-read text result read makes =
+      staged-then (λ t. t.items) seen (λ t. at_once (made t)) (reads file gives) before after after text result read
+      (staged-made seen (made text.items) after result makes)
+
+  pub staged-unread : (why : Refusal) → Staged {T = Vec ℕ Global} (λ t. t.items) (reads file gives) before after (Err why)
+      → Staged {T = T} seen (then_plan (reads file gives) (λ t. at_once (made t))) before after (Err why)
+  staged-unread why unread =
+      staged-stopped (λ t. t.items) seen (λ t. at_once (made t)) (reads file gives) before after why unread
+
+-- a stage that settles a system
+pub staged-settled : {T : Type 0} (seen : T → SystemState) (sources : Sources) (s : Stored) (result : Result T Refusal)
+    → Settles seen sources result → Staged seen (settles sources gives) s s result
+unfolding Unable
+staged-settled seen sources s (Ok x) h = record {
+  ok = settles_on (seen x) h stays;
+  err = tt;
+  same = refl;
+  count = omega arith;
+}
+staged-settled seen sources s (Err (Fault file first)) h = record {
+  ok = tt;
+  err = settles_not (fault file first) h;
+  same = refl;
+  count = omega arith;
+}
+staged-settled seen sources s (Err (Limit word count)) h = record {
+  ok = tt;
+  err = settles_not (limit word count) h;
+  same = refl;
+  count = omega arith;
+}
+staged-settled seen sources s (Err (Unread file)) h = absurd h
+staged-settled seen sources s (Err (Unwritten file)) h = absurd h
+staged-settled seen sources s (Err Unprinted) h = absurd h
+staged-settled seen sources s (Err (NotEnabled file line tokens)) h = absurd h
+staged-settled seen sources s (Err NoMemory) h = record { ok = tt; err = tt; same = refl; count = omega arith }
+
+-- a stage for which there was no memory
+pub staged-wanting : {T A : Type 0} (seen : T → A) (p : Plan A) (before after : Stored)
+    → after ≡ record before { read_faults = after.read_faults } → before.read_faults ≤ after.read_faults
+    → Staged {T = T} seen p before after (Err NoMemory)
+unfolding Unable
+staged-wanting seen p before after same count = record { ok = tt; err = tt; same = same; count = count }
+
+-- a stage whose value is seen in another way, with nothing more read
+pub staged-seen : {T U A B : Type 0} (one : T → A) (two : U → B) (k : A → B) (p : Plan A) (before after : Stored) (x : T) (y : U)
+    → two y ≡ k (one x) → Staged one p before after (Ok x) → Staged two (then_plan p (λ a. gives (k a))) before after (Ok y)
+unfolding then_plan
+staged-seen one two k p before after x y is s = record {
+  ok = subst (λ v. Goes before.files (then_plan p (λ a. gives (k a))) (gives v)) (sym is)
+      (goes-then before.files (λ a. gives (k a)) p (gives (one x)) s.ok);
+  err = tt;
+  same = s.same;
+  count = s.count;
+}
 
 -- in a loop over several: those before were done, one after the other
 pub record Walked {A B : Type 0} (f : B → Plan A) (all rest : List B) (so_far : List A) (before now : Stored) : Type 0 where

@@ -21,7 +21,8 @@ use Rattle.tn_words.specs.PlainWords.{is_plain_word}
 use Rattle.tn_top.specs.declared.refusals.Refusal.{Refusal}
 use Rattle.tn_top.specs.declared.words.Command.{Command}
 use Rattle.tn_top.specs.declared.refusals.Refusal.TheVariants.{Fault, Limit, Unread, Unwritten, Unprinted, NotEnabled, NoMemory}
-use Rattle.tn_top.specs.CommandWords.{Asked, HasLink, flat, one, asm, lib, is_file_word, link_named, two_files, one_asked, lib_asked, asked}
+use Rattle.tn_top.specs.CommandWords.{Asked, HasLink, flat, one, asm, lib, build, tree, is_file_word, link_named, one_file, two_files}
+use Rattle.tn_top.specs.CommandWords.{one_asked, lib_asked, asked}
 use Rattle.tn_io.specs.Outs.{Printed}
 use Rattle.tn_io.specs.Stores.{Stored}
 use Rattle.tn_top.specs.Plans.{Answer, Plan}
@@ -105,6 +106,22 @@ some-same seen a (Ok (Some b)) h = sym h
 some-same seen a (Err why) h = tt
 
 module _ (words : List (List ℕ)) where
+  pub file_reads : (r : Result (Option (List ℕ)) Refusal)
+      → ((command file : List ℕ) → words ≡ command ∷ file ∷ [] → is_file_word file ≡ true → IfOk r (λ o. IsSomeAnd o (λ f. f ≡ file)))
+      → IfErr r (λ why. why ≡ NoMemory) → ReadsAs (λ file. file) (one_file (behind words)) r
+  file_reads r ok err = record { values = at words refl; wanting = err }
+    where
+      by : (command file : List ℕ) → words ≡ command ∷ file ∷ [] → (t : Bool) → is_file_word file ≡ t
+          → IfSome (cond {A = Option (List ℕ)} t (Some file) None) (λ what. IfOk r (λ o. IsSomeAnd o (λ f. what ≡ f)))
+      by command file e false t = tt
+      by command file e true t = some-same (λ f. f) file r (ok command file e t)
+
+      at : (ws : List (List ℕ)) → words ≡ ws → IfSome (one_file (behind ws)) (λ what. IfOk r (λ o. IsSomeAnd o (λ f. what ≡ f)))
+      at [] e = tt
+      at (a ∷ []) e = tt
+      at (a ∷ b ∷ []) e = by a b e (is_file_word b) refl
+      at (a ∷ b ∷ c ∷ cs) e = tt
+
   pub two_reads : (r : Result (Option (List ℕ × List ℕ)) Refusal)
       → ((command first second : List ℕ) → words ≡ command ∷ first ∷ second ∷ [] → is_file_word first ≡ true
       → is_file_word second ≡ true → IfOk r (λ o. IsSomeAnd o (λ files. files ≡ (first, second))))
@@ -197,19 +214,20 @@ fails p xs i x here is fail = at (list_all p xs) refl
 
 pub unasked : {X : Type 0} (f : X → List ℕ) (words : List X) (first : X) (command : List ℕ) → 1 ≤ length words
     → first ≡ get_or words 0 first → command ≡ f first → (command ≡ codes "flat" → ⊥) → (command ≡ codes "one" → ⊥)
-    → (command ≡ codes "asm" → ⊥)
-    → (command ≡ codes "lib" → ⊥) → asked (map f words) ≡ None
+    → (command ≡ codes "asm" → ⊥) → (command ≡ codes "lib" → ⊥) → (command ≡ codes "build" → ⊥) → (command ≡ codes "tree" → ⊥)
+    → asked (map f words) ≡ None
 unfolding asked
-unasked f [] first command some is same no_flat no_one no_asm no_lib = absurd (omega arith)
-unasked f (word ∷ words) first command some is same no_flat no_one no_asm no_lib =
+unasked f [] first command some is same no_flat no_one no_asm no_lib no_build no_tree = absurd (omega arith)
+unasked f (word ∷ words) first command some is same no_flat no_one no_asm no_lib no_build no_tree =
     let named : command ≡ f word = same ∙ ap f is in
     rw (
       ← named,
       bytes_eq-other command (codes "flat") no_flat,
       bytes_eq-other command (codes "one") no_one,
-      bytes_eq-other command
-          (codes "asm") no_asm,
+      bytes_eq-other command (codes "asm") no_asm,
       bytes_eq-other command (codes "lib") no_lib,
+      bytes_eq-other command (codes "build") no_build,
+      bytes_eq-other command (codes "tree") no_tree,
     ) refl
 
 -- ---- links
@@ -221,6 +239,14 @@ either false x y h k = k
 asm-links : (files : Option (List ℕ × List ℕ)) → IfSome (option_map (λ f. asm f.0 f.1) files) HasLink
 asm-links None = tt
 asm-links (Some f) = tt
+
+build-links : (files : Option (List ℕ × List ℕ)) → IfSome (option_map (λ f. build f.0 f.1) files) HasLink
+build-links None = tt
+build-links (Some f) = tt
+
+tree-links : (file : Option (List ℕ)) → IfSome (option_map tree file) HasLink
+tree-links None = tt
+tree-links (Some f) = tt
 
 flat-links : (files : Option (List ℕ × List ℕ)) → IfSome (option_map (λ f. flat f.0 f.1) files) HasLink
 flat-links None = tt
@@ -261,7 +287,9 @@ asked-links (command ∷ words) =
     either (bytes_eq command (codes "flat")) (option_map (λ f. flat f.0 f.1) (two_files words)) _ (flat-links (two_files words))
     (either (bytes_eq command (codes "one")) (one_asked words) _ (one-links words)
     (either (bytes_eq command (codes "asm")) (option_map (λ f. asm f.0 f.1) (two_files words)) _ (asm-links (two_files words))
-    (either (bytes_eq command (codes "lib")) (lib_asked words) None (lib-links words) tt)))
+    (either (bytes_eq command (codes "lib")) (lib_asked words) _ (lib-links words)
+    (either (bytes_eq command (codes "build")) (option_map (λ f. build f.0 f.1) (two_files words)) _ (build-links (two_files words))
+    (either (bytes_eq command (codes "tree")) (option_map tree (one_file words)) None (tree-links (one_file words)) tt)))))
 
 -- ---- what was read is what is asked for
 

@@ -13,6 +13,8 @@ pub data Asked : Type 0 where
   one : (source target : List ℕ) (link : ℕ) → Asked
   asm : (source target : List ℕ) → Asked
   lib : (target : List ℕ) (sources : List (List ℕ)) → Asked
+  build : (config target : List ℕ) → Asked
+  tree : (config : List ℕ) → Asked
 
 -- a word that may name a file: it isn't empty, doesn't begin with a minus sign, and has at most 255 bytes
 abbrev pub is_file_word : List ℕ → Bool
@@ -27,6 +29,11 @@ link_named _ = None
 abbrev pub two_files : List (List ℕ) → Option (List ℕ × List ℕ)
 two_files (first ∷ second ∷ []) = if is_file_word first && is_file_word second then Some (first, second) else None
 two_files _ = None
+
+-- one file
+abbrev pub one_file : List (List ℕ) → Option (List ℕ)
+one_file (file ∷ []) = if is_file_word file then Some file else None
+one_file _ = None
 
 -- two files and a link
 abbrev pub one_asked : List (List ℕ) → Option Asked
@@ -46,7 +53,9 @@ asked_of command words =
     if bytes_eq command (codes "flat") then option_map (λ f. flat f.0 f.1) (two_files words)
     else (if bytes_eq command (codes "one") then one_asked words
     else (if bytes_eq command (codes "asm") then option_map (λ f. asm f.0 f.1) (two_files words)
-    else (if bytes_eq command (codes "lib") then lib_asked words else None)))
+    else (if bytes_eq command (codes "lib") then lib_asked words
+    else (if bytes_eq command (codes "build") then option_map (λ f. build f.0 f.1) (two_files words)
+    else (if bytes_eq command (codes "tree") then option_map tree (one_file words) else None)))))
 
 -- what the words after the program's name ask for, if they spell a command
 unfoldable pub asked : List (List ℕ) → Option Asked

@@ -1,5 +1,5 @@
 -- The commands, as plans, and what is answered on words and files.
-use Rattle.std.specs.Prelude.{ℕ, ℤ, nat_lt, length, List, [], Option, Some, None, Result, Ok, Err, if◌then◌else◌}
+use Rattle.std.specs.Prelude.{◌≡◌, ℕ, ℤ, nat_lt, length, List, [], Option, Some, None, Result, Ok, Err, if◌then◌else◌}
 use Rattle.std.specs.Option.{option_map}
 use Rattle.tn_isa.specs.declared.functions.Fun.{Fun}
 use Rattle.tn_io.specs.FileLists.{Files}
@@ -8,14 +8,15 @@ use Rattle.tn_text.specs.declared.limits.Limit.TheVariants.{File, Modules, Code}
 use Rattle.tn_text.specs.declared.limits.TheConstants.{FILE_LIMIT, MODULE_LIMIT, CODE_LIMIT}
 use Rattle.tn_asm.specs.FlatReading.{flat_read}
 use Rattle.tn_module.specs.Modules.{Parts}
-use Rattle.tn_modtext.specs.ModuleReading.{module_read}
 use Rattle.tn_modtext.specs.Lines.{spelling}
 use Rattle.tn_asm.specs.Assembling.{assembled}
 use Rattle.tn_modtext.specs.Libraries.{library_spelling}
-use Rattle.tn_top.specs.CommandWords.{Asked, flat, one, asm, lib, asked}
+use Rattle.tn_top.specs.CommandWords.{Asked, flat, one, asm, lib, build, tree, asked}
 use Rattle.tn_top.specs.FlatCode.{flat_code}
 use Rattle.tn_top.specs.OneProcessor.{boot_stream}
-use Rattle.tn_top.specs.Plans.{Answer, usage, fault, limit, done, Plan, gives, stops, reads, then_plan, at_once, each, answer_of}
+use Rattle.tn_top.specs.ModulePlans.{module_plan}
+use Rattle.tn_top.specs.SystemPlans.{system_plan, stream_written, tree_printed}
+use Rattle.tn_top.specs.Plans.{Answer, usage, fault, limit, done, Plan, gives, stops, reads, then_plan, at_once, each, Reaches}
 
 -- code of at most 262,144 bytes
 abbrev pub limited_code : List ℕ → Result (List ℕ) Answer
@@ -42,11 +43,6 @@ code_plan source = then_plan (reads source gives) (λ text. at_once (code_in sou
 abbrev pub written_from : List ℕ → (List ℕ → List ℕ) → List ℕ → Plan Answer
 written_from target made code = gives (done (Some (target, made code)) [])
 
--- what was read from a file, or the file's fault
-abbrev pub or_fault : {A : Type 0} → List ℕ → Result A Fault → Result A Answer
-or_fault file (Ok value) = Ok value
-or_fault file (Err first) = Err (fault file first)
-
 -- the text of a module that an assembler source gives
 abbrev pub text_given : List ℕ → Result Parts Fault → Result (List ℕ) Answer
 text_given source (Err first) = Err (fault source first)
@@ -59,10 +55,6 @@ module_text_in source text = text_given source (assembled text)
 -- an assembler source is read, and turned into its module's text
 abbrev pub assembler_plan : List ℕ → Plan (List ℕ)
 assembler_plan source = then_plan (reads source gives) (λ text. at_once (module_text_in source text))
-
--- a module text is read
-abbrev pub module_plan : List ℕ → Plan Parts
-module_plan file = then_plan (reads file gives) (λ text. at_once (or_fault file (module_read text)))
 
 -- the text of a library of modules
 abbrev pub library_text : List Parts → Result (List ℕ) Answer
@@ -80,16 +72,18 @@ plan_of (flat source target) = then_plan (code_plan source) (written_from target
 plan_of (one source target link) = then_plan (code_plan source) (written_from target (boot_stream link))
 plan_of (asm source target) = then_plan (assembler_plan source) (written_from target (λ text. text))
 plan_of (lib target sources) = then_plan (library_plan sources) (written_from target (λ text. text))
+plan_of (build config target) = then_plan (system_plan config) (stream_written target)
+plan_of (tree config) = then_plan (system_plan config) tree_printed
 
 -- the plan that words ask for
 abbrev pub plan_asked : List (List ℕ) → Option (Plan Answer)
 plan_asked words = option_map plan_of (asked words)
 
--- the answer to what was asked for
-abbrev pub answer_to : Option (Plan Answer) → Files → Answer
-answer_to None files = usage
-answer_to (Some plan) files = answer_of plan files
+-- what was asked for comes to this answer over files
+abbrev pub Answers : Option (Plan Answer) → Files → Answer → Type 0
+Answers None files answer = answer ≡ usage
+Answers (Some plan) files answer = Reaches files plan answer
 
--- the answer to words
-abbrev pub answer : List (List ℕ) → Files → Answer
-answer words files = answer_to (plan_asked words) files
+-- the answer to words over files
+abbrev pub IsAnswer : List (List ℕ) → Files → Answer → Type 0
+IsAnswer words files answer = Answers (plan_asked words) files answer

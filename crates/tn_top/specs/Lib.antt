@@ -3,8 +3,11 @@ pub mod CommandWords
 pub mod FlatCode
 pub mod OneProcessor
 pub mod Plans
+pub mod ModulePlans
+pub mod SystemPlans
 pub mod Commands
 pub mod Outcomes
+pub mod Builds
 pub mod Refusals
 pub mod ErrLines
 pub mod Inner

@@ -9,8 +9,9 @@ use Rattle.tn_text.specs.declared.faults.Fault.{Fault}
 use Rattle.tn_text.specs.declared.limits.Limit.{Limit}
 use Rattle.tn_top.specs.declared.statuses.Status.{Status}
 use Rattle.tn_top.specs.declared.statuses.Status.TheVariants as status
-use Rattle.tn_top.specs.Plans.{Answer, usage, unread, fault, limit, refused, done, Plan, gives, stops, reads}
-use Rattle.tn_top.specs.Commands.{answer_to}
+use Rattle.tn_system.specs.Systems.{SystemState}
+use Rattle.tn_top.specs.Plans.{Answer, usage, unread, fault, limit, refused, done, Plan, gives, stops, reads, settles}
+use Rattle.tn_top.specs.Commands.{Answers}
 
 -- a relation between told files; nothing is said of files that are told neither before nor after
 abbrev pub Told : Option Files → Option Files → (Files → Files → Type 0) → Type 0
@@ -70,31 +71,35 @@ IsPrinted (done file text) = ⊤
 IsPrinted (refused file line tokens text) = ⊤
 IsPrinted _ = ⊥
 
--- this file cannot be read: the files are told and it isn't there; or a read failed, and the answer
--- without the file, where the files are told, is that it isn't there
-abbrev pub CannotRead : (Files → Answer) → Stored → Stored → List ℕ → Type 0
-CannotRead answer before after file =
-    IsSomeAnd before.files (λ files. answer files ≡ unread file)
-    ⊎ (Rose before.read_faults after.read_faults × IfSome before.files (λ files. answer (without files file) ≡ unread file))
+-- what was asked for comes to an answer like this over files
+abbrev pub AnswersLike : Option (Plan Answer) → Files → (Answer → Type 0) → Type 0
+AnswersLike asked files P = (answer : Answer) × Answers asked files answer × P answer
+
+-- This file cannot be read: the files are told and the answer is that it isn't there; or a read failed,
+-- and that is the answer without the file, where the files are told.
+abbrev pub CannotRead : Option (Plan Answer) → Stored → Stored → List ℕ → Type 0
+CannotRead asked before after file =
+    IsSomeAnd before.files (λ files. Answers asked files (unread file))
+    ⊎ (Rose before.read_faults after.read_faults × IfSome before.files (λ files. Answers asked (without files file) (unread file)))
 
 -- What has to have happened where a command ends with a status: a row for each. `asked` is the plan that
 -- the words ask for, if they spell a command.
 abbrev pub HasCause : Option (Plan Answer) → Stored → Stored → Printed → Printed → Status → Type 0
-HasCause asked before after old new status.Done = IfSome before.files (λ files. IsDone (answer_to asked files))
+HasCause asked before after old new status.Done = IfSome before.files (λ files. AnswersLike asked files IsDone)
 HasCause asked before after old new status.Fault =
-    IfSome before.files (λ files. (file : List ℕ) × (first : Fault) × (answer_to asked files ≡ fault file first))
+    IfSome before.files (λ files. (file : List ℕ) × (first : Fault) × Answers asked files (fault file first))
 HasCause asked before after old new status.Usage = asked ≡ None
 HasCause asked before after old new status.Limit =
-    IfSome before.files (λ files. (which : Limit) × (count : ℕ) × (answer_to asked files ≡ limit which count))
-HasCause asked before after old new status.ReadFault = (file : List ℕ) × CannotRead (answer_to asked) before after file
+    IfSome before.files (λ files. (which : Limit) × (count : ℕ) × Answers asked files (limit which count))
+HasCause asked before after old new status.ReadFault = (file : List ℕ) × CannotRead asked before after file
 HasCause asked before after old new status.WriteFault = Rose before.write_faults after.write_faults
-    × IfSome before.files (λ files. IsDone (answer_to asked files))
+    × IfSome before.files (λ files. AnswersLike asked files IsDone)
 HasCause asked before after old new status.OutFault = Rose old.faults new.faults
-    × IfSome before.files (λ files. IsPrinted (answer_to asked files))
+    × IfSome before.files (λ files. AnswersLike asked files IsPrinted)
 HasCause asked before after old new status.NoMemory = ⊤
 HasCause asked before after old new status.NotEnabled =
     IfSome before.files (λ files. (file : List ℕ) × (line : ℕ) × (tokens text : List ℕ)
-    × (answer_to asked files ≡ refused file line tokens text))
+    × Answers asked files (refused file line tokens text))
 
 -- no call failed
 pub record NothingFailed (before after : Stored) (old new : Printed) : Type 0 where
@@ -106,26 +111,49 @@ pub record NothingFailed (before after : Stored) (old new : Printed) : Type 0 wh
 abbrev pub Unless : Status → Status → Type 0
 Unless s wanted = (s ≡ status.NoMemory) ⊎ (s ≡ wanted)
 
--- what the files hold after a command, by the answer and the status
-abbrev pub FilesAfter : Answer → Status → Files → Files → Type 0
-FilesAfter (done (Some file) text) status.Done before after = Holds file.0 file.1 before after
-FilesAfter (done (Some file) text) status.WriteFault before after = HoldsPart file.0 file.1 before after
-FilesAfter (done (Some file) text) status.NoMemory before after = HoldsPart file.0 file.1 before after
-FilesAfter _ status before after = SameFiles before after
+-- the status is the answer's, unless memory ran out
+abbrev pub HasStatus : Option (Plan Answer) → Files → Status → Type 0
+HasStatus asked files s = (s ≡ status.NoMemory) ⊎ AnswersLike asked files (λ answer. s ≡ status_of answer)
 
--- what was printed, by the answer and the status
-abbrev pub PrintedAfter : Answer → Status → Printed → Printed → Type 0
-PrintedAfter answer status.Done old new = new.bytes ≡ told_then (printed_by answer) old.bytes
-PrintedAfter answer status.NotEnabled old new = new.bytes ≡ told_then (printed_by answer) old.bytes
-PrintedAfter answer status.OutFault old new = Begins (printed_by answer) old new
-PrintedAfter answer status.NoMemory old new = Begins (printed_by answer) old new
-PrintedAfter answer _ old new = new.bytes ≡ old.bytes
+-- what the files hold that an answer leaves
+abbrev pub Leaves : Answer → Files → Files → Type 0
+Leaves (done (Some file) text) before after = Holds file.0 file.1 before after
+Leaves _ before after = SameFiles before after
 
--- whatever the texts that a plan reads, what it gives is such a value
+-- the same where the file of the answer was not written, or not whole
+abbrev pub LeavesPart : Answer → Files → Files → Type 0
+LeavesPart (done (Some file) text) before after = HoldsPart file.0 file.1 before after
+LeavesPart _ before after = ⊥
+
+-- what the files hold after a command, by what was asked for and the status
+abbrev pub FilesAfter : Option (Plan Answer) → Status → Files → Files → Type 0
+FilesAfter asked status.Done before after = AnswersLike asked before (λ answer. Leaves answer before after)
+FilesAfter asked status.WriteFault before after = AnswersLike asked before (λ answer. LeavesPart answer before after)
+FilesAfter asked status.NoMemory before after =
+    SameFiles before after ⊎ AnswersLike asked before (λ answer. LeavesPart answer before after)
+FilesAfter asked status before after = SameFiles before after
+
+-- the text of an answer was printed, or a prefix of it
+abbrev pub PrintsWhole : Printed → Printed → Answer → Type 0
+PrintsWhole old new answer = new.bytes ≡ told_then (printed_by answer) old.bytes
+
+abbrev pub PrintsPart : Printed → Printed → Answer → Type 0
+PrintsPart old new answer = Begins (printed_by answer) old new
+
+-- what was printed, by what was asked for, the files before and the status
+abbrev pub PrintedAfter : Option (Plan Answer) → Files → Status → Printed → Printed → Type 0
+PrintedAfter asked files status.Done old new = AnswersLike asked files (PrintsWhole old new)
+PrintedAfter asked files status.NotEnabled old new = AnswersLike asked files (PrintsWhole old new)
+PrintedAfter asked files status.OutFault old new = AnswersLike asked files (PrintsPart old new)
+PrintedAfter asked files status.NoMemory old new = (new.bytes ≡ old.bytes) ⊎ AnswersLike asked files (PrintsPart old new)
+PrintedAfter asked files _ old new = new.bytes ≡ old.bytes
+
+-- whatever the texts that a plan reads and the systems that it settles, what it gives is such a value
 unfoldable pub AllGiven : {A : Type 0} → (A → Type 0) → Plan A → Type 0
 AllGiven P (gives x) = P x
 AllGiven P (stops answer) = ⊤
 AllGiven P (reads file next) = (text : List ℕ) → AllGiven P (next text)
+AllGiven P (settles sources next) = (system : SystemState) → AllGiven P (next system)
 
 -- an answer that writes this file
 abbrev pub WritesTo : List ℕ → Answer → Type 0

@@ -1,15 +1,17 @@
-ghost use Rattle.std.specs.Prelude.{◌≡◌, ◌<◌, ℕ, List, map, string_bytes, None, IfSome, IfOk};
+ghost use Rattle.std.specs.Prelude.{◌≡◌, ◌<◌, ℕ, List, map, string_bytes, None, Some, IfSome, IfOk};
 ghost use Rattle.tn_text.specs.Counts.{Rose};
 ghost use Rattle.tn_io.specs.Outs.{Printed};
 ghost use Rattle.tn_text.specs.declared.faults.Fault.{Fault};
 ghost use Rattle.tn_text.specs.declared.limits.Limit.{Limit};
-ghost use Rattle.tn_top.specs.CommandWords.{Asked, asked, HasLink};
+ghost use Rattle.tn_top.specs.CommandWords.{Asked, build, asked, HasLink};
 ghost use Rattle.tn_top.specs.Inner.WordReading.{IsFor, asked_by};
 ghost use Rattle.tn_top.specs.OneProcessor.{boot_stream};
-ghost use Rattle.tn_top.specs.Plans.{fault, limit, refused, then_plan};
-ghost use Rattle.tn_top.specs.Commands.{code_plan, assembler_plan, library_plan, written_from, plan_of, plan_asked, answer};
-ghost use Rattle.tn_top.specs.Outcomes.{Told, HasCause, NothingFailed, Unless, FilesAfter, PrintedAfter, Writes};
-ghost use Rattle.tn_top.specs.Outcomes.{status_of as answer_status};
+ghost use Rattle.tn_io.specs.FileLists.{Files};
+ghost use Rattle.tn_top.specs.Plans.{Answer, fault, limit, refused, then_plan};
+ghost use Rattle.tn_top.specs.SystemPlans.{system_plan, stream_written, tree_printed};
+ghost use Rattle.tn_top.specs.Commands.{code_plan, assembler_plan, library_plan, written_from, plan_of, plan_asked, IsAnswer};
+ghost use Rattle.tn_top.specs.Outcomes.{Told, HasCause, NothingFailed, Unless, HasStatus, FilesAfter, PrintedAfter, Writes};
+ghost use Rattle.tn_top.specs.Builds.{IsBuilt};
 ghost use Rattle.tn_top.specs.ErrLines.{Tells, IsLine};
 ghost use Rattle.tn_top.specs.Inner.Ends.{Ends};
 
@@ -19,6 +21,9 @@ use crate::one_processor::write_code_stream;
 use crate::reading::{read_code, read_library_text, read_module_of};
 use crate::refusals::{Refusal, status_of};
 use crate::statuses::Status;
+use crate::stream_files::write_stream;
+use crate::systems::read_system;
+use crate::tree_prints::print_tree;
 use crate::words::{Command, command_of};
 use std::alloc::Global;
 use tn_io::{Out, Store};
@@ -38,7 +43,11 @@ pub fn run<S: Store, O: Out>(
 
     // Where no call failed, the status is the answer's, unless memory ran out.
     ensures status { NothingFailed (S.stored store.old) (S.stored store.new) (O.printed out.old) (O.printed out.new)
-        → IfSome (S.stored store.old).files (λ files. Unless result (answer_status (answer (map string_bytes words.now) files))) }
+        → IfSome (S.stored store.old).files (λ files. HasStatus (plan_asked (map string_bytes words.now)) files result) }
+
+    // Words have one answer at most over files.
+    ensures one { (files : Files) (a b : Answer) → IsAnswer (map string_bytes words.now) files a
+        → IsAnswer (map string_bytes words.now) files b → a ≡ b }
 
     // `Usage` comes exactly where the words spell no command; a fault, a limit and a step that is not
     // enabled come exactly where they are the answer and no read, and for the last no print, failed,
@@ -46,25 +55,30 @@ pub fn run<S: Store, O: Out>(
     ensures usage { asked (map string_bytes words.now) ≡ None → result ≡ Status.Usage }
     ensures fault { (Rose (S.stored store.old).read_faults (S.stored store.new).read_faults → ⊥)
         → IfSome (S.stored store.old).files (λ files. (file : List ℕ) (first : Fault)
-        → answer (map string_bytes words.now) files ≡ fault file first → Unless result Status.Fault) }
+        → IsAnswer (map string_bytes words.now) files (fault file first) → Unless result Status.Fault) }
     ensures limit { (Rose (S.stored store.old).read_faults (S.stored store.new).read_faults → ⊥)
         → IfSome (S.stored store.old).files (λ files. (which : Limit) (count : ℕ)
-        → answer (map string_bytes words.now) files ≡ limit which count → Unless result Status.Limit) }
+        → IsAnswer (map string_bytes words.now) files (limit which count) → Unless result Status.Limit) }
     ensures not_enabled { (Rose (S.stored store.old).read_faults (S.stored store.new).read_faults → ⊥)
         → (Rose (O.printed out.old).faults (O.printed out.new).faults → ⊥)
         → IfSome (S.stored store.old).files (λ files. (file : List ℕ) (line : ℕ) (tokens text : List ℕ)
-        → answer (map string_bytes words.now) files ≡ refused file line tokens text → Unless result Status.NotEnabled) }
+        → IsAnswer (map string_bytes words.now) files (refused file line tokens text) → Unless result Status.NotEnabled) }
 
     // What each name holds after the command, and that no file is open after `Done` of a command that
     // writes one.
     ensures files { IfSome (S.stored store.old).files (λ files.
-        Told (S.stored store.old).files (S.stored store.new).files (FilesAfter (answer (map string_bytes words.now) files) result)) }
+        Told (S.stored store.old).files (S.stored store.new).files (FilesAfter (plan_asked (map string_bytes words.now)) result)) }
     ensures closed { (target : List ℕ) → Writes (plan_asked (map string_bytes words.now)) target → result ≡ Status.Done
         → (S.stored store.new).opened ≡ None }
 
+    // After `Done` of `build` the configuration makes a system, each image of which has code of the least
+    // sizes, and the file holds the stream that loads it.
+    ensures built { (config target : List ℕ) → asked (map string_bytes words.now) ≡ Some (build config target)
+        → result ≡ Status.Done → IsBuilt config target (S.stored store.old) (S.stored store.new) }
+
     // What is printed, and what is told on the error output: the line of the status.
     ensures print { IfSome (S.stored store.old).files (λ files.
-        PrintedAfter (answer (map string_bytes words.now) files) result (O.printed out.old) (O.printed out.new)) }
+        PrintedAfter (plan_asked (map string_bytes words.now)) files result (O.printed out.old) (O.printed out.new)) }
     ensures err { (line : List ℕ) × IsLine (plan_asked (map string_bytes words.now)) (S.stored store.old) (S.stored store.new) result line
         × Tells line (O.printed err.old) (O.printed err.new) }
     ensures out_goes_on { O.goes_on out.old out.new }
@@ -104,6 +118,8 @@ fn perform<S: Store, O: Out>(
         } => one(alloc, &source, &target, link, store),
         Command::Asm { source, target } => asm(alloc, &source, &target, store),
         Command::Lib { target, sources } => lib(alloc, &target, &sources, store),
+        Command::Build { config, target } => build(alloc, &config, &target, store),
+        Command::Tree { config } => tree(alloc, &config, store, out),
     }
 }
 
@@ -164,4 +180,33 @@ fn lib<S: Store>(
 {
     let text = read_library_text(alloc, sources, store)?;
     write_file(target, &text, store)
+}
+
+/// Builds the system of a configuration, and writes its stream to a file.
+fn build<S: Store>(
+    alloc: Global,
+    config: &FileName,
+    target: &FileName,
+    store: &mut S,
+) -> Result<(), Refusal>
+    ensures { (said : Printed) → Ends (then_plan (system_plan config.now) (stream_written target.now))
+        (S.stored store.old) (S.stored store.new) said said result }
+{
+    let read = read_system(alloc, config, store)?;
+    write_stream(target, &read.system.tree, &read.system.images, store)
+}
+
+/// Builds the system of a configuration, and prints its load tree.
+fn tree<S: Store, O: Out>(
+    alloc: Global,
+    config: &FileName,
+    store: &mut S,
+    out: &mut O,
+) -> Result<(), Refusal>
+    ensures ends { Ends (then_plan (system_plan config.now) tree_printed)
+        (S.stored store.old) (S.stored store.new) (O.printed out.old) (O.printed out.new) result }
+    ensures goes_on { O.goes_on out.old out.new }
+{
+    let read = read_system(alloc, config, store)?;
+    print_tree(alloc, &read, out)
 }

@@ -13,6 +13,9 @@ mod one_processor;
 mod reading;
 mod refusals;
 mod statuses;
+mod stream_files;
+mod systems;
+mod tree_prints;
 mod words;
 
 pub use commands::run;

@@ -1,7 +1,8 @@
-ghost use Rattle.std.specs.Prelude.{◌≡◌, ◌≤◌, length, vec_len, IfOk};
+ghost use Rattle.std.specs.Prelude.{◌≡◌, ◌≤◌, length, vec_len, All, IfOk};
 ghost use Rattle.tn_top.specs.Plans.{reads, gives, each};
-ghost use Rattle.tn_top.specs.Commands.{code_in, code_plan, module_text_in, assembler_plan, module_plan, library_text, library_plan};
-ghost use Rattle.tn_top.specs.Commands.{limited_text, or_fault};
+ghost use Rattle.tn_system.specs.Sources.{HasFewLines};
+ghost use Rattle.tn_top.specs.ModulePlans.{or_fault, module_plan};
+ghost use Rattle.tn_top.specs.Commands.{code_in, code_plan, module_text_in, assembler_plan, library_text, library_plan, limited_text};
 ghost use Rattle.tn_modtext.specs.Lines.{spelling};
 ghost use Rattle.tn_modtext.specs.ModuleReading.{module_read};
 ghost use Rattle.tn_top.specs.Inner.Stages.{Staged, Makes};
@@ -105,7 +106,8 @@ fn read_module_text<S: Store>(
     source: &FileName,
     store: &mut S,
 ) -> Result<Module, Refusal>
-    ensures { Staged (λ m. m) (module_plan source.now) (S.stored store.old) (S.stored store.new) result }
+    ensures staged { Staged (λ m. m) (module_plan source.now) (S.stored store.old) (S.stored store.new) result }
+    ensures few_lines { IfOk result HasFewLines }
 {
     let text = read_file(alloc, source, store)?;
     module_in(alloc, source, &text)
@@ -114,7 +116,8 @@ fn read_module_text<S: Store>(
 /// The module of a module text, the text of a file.
 fn module_in(alloc: Global, source: &FileName, text: &[u8]) -> Result<Module, Refusal>
     requires { length text.now ≤ FILE_LIMIT }
-    ensures { Makes (λ m. m) (or_fault source.now (module_read text.now)) result }
+    ensures made { Makes (λ m. m) (or_fault source.now (module_read text.now)) result }
+    ensures few_lines { IfOk result HasFewLines }
 {
     match read_module(alloc, text) {
         Ok(read) => Ok(read),
@@ -124,12 +127,14 @@ fn module_in(alloc: Global, source: &FileName, text: &[u8]) -> Result<Module, Re
 }
 
 /// The modules of the module texts in some files.
-fn read_modules<S: Store>(
+pub fn read_modules<S: Store>(
     alloc: Global,
     sources: &[FileName],
     store: &mut S,
 ) -> Result<Vec<Module>, Refusal>
-    ensures { Staged (λ modules. modules.items) (each module_plan sources.now) (S.stored store.old) (S.stored store.new) result }
+    ensures staged { Staged (λ modules. modules.items) (each module_plan sources.now) (S.stored store.old) (S.stored store.new) result }
+    ensures few_lines { IfOk result (λ modules. All HasFewLines modules.items) }
+    ensures as_many { IfOk result (λ modules. length modules.items ≡ length sources.now) }
 {
     let mut modules = Vec::new(alloc);
     for source in sources {

@@ -73,6 +73,17 @@ impl From<tn_module::NoMemory> for Refusal {
     }
 }
 
+impl From<tn_system::NoMemory> for Refusal {
+    ghost use Rattle.std.specs.Prelude.{◌≡◌};
+    ghost use Rattle.tn_top.specs.declared.refusals.Refusal.TheVariants.{NoMemory};
+
+    ghost from_gives = { λ _ refusal. refusal ≡ NoMemory };
+
+    fn from(_want: tn_system::NoMemory) -> Refusal {
+        Refusal::NoMemory
+    }
+}
+
 impl From<AllocError> for Refusal {
     ghost use Rattle.std.specs.Prelude.{◌≡◌};
     ghost use Rattle.tn_top.specs.declared.refusals.Refusal.TheVariants.{NoMemory};

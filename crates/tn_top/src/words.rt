@@ -3,13 +3,14 @@ ghost use Rattle.std.specs.Prelude.{IsSomeAnd, is_some, if◌then◌else◌};
 ghost use Rattle.std.specs.List.{list_all};
 ghost use Rattle.std.specs.Option.{option_map};
 ghost use Rattle.tn_top.specs.declared.refusals.Refusal.TheVariants.{NoMemory};
-ghost use Rattle.tn_top.specs.CommandWords.{flat, one, asm, lib, is_file_word, link_named, two_files, one_asked, lib_asked, asked};
+ghost use Rattle.tn_top.specs.CommandWords.{flat, one, asm, lib, build, tree, is_file_word, link_named, one_file, two_files};
+ghost use Rattle.tn_top.specs.CommandWords.{one_asked, lib_asked, asked};
 ghost use Rattle.tn_top.specs.Inner.WordReading.{behind, IsReadAs, ReadsAs, asked_by};
 
 use crate::refusals::Refusal;
 use std::alloc::Global;
 use tn_text::FileName;
-use tn_words::{several_matches, three_matches, two_matches};
+use tn_words::{one_match, several_matches, three_matches, two_matches};
 
 /// What the words of a command line ask for.
 #[derive(Drop)]
@@ -36,6 +37,15 @@ pub enum Command {
         target: FileName,
         sources: Vec<FileName>,
     },
+    /// Build the system of a configuration, and write the stream that loads it.
+    Build {
+        config: FileName,
+        target: FileName,
+    },
+    /// Build the system of a configuration, and print its load tree.
+    Tree {
+        config: FileName,
+    },
 }
 
 /// The command that the words after the program's name spell, if they spell one. A file's name is
@@ -53,6 +63,8 @@ pub fn command_of(alloc: Global, words: &[String]) -> Option<Result<Command, Ref
         "one" => one_words(alloc, words),
         "asm" => asm_words(alloc, words),
         "lib" => lib_words(alloc, words),
+        "build" => build_words(alloc, words),
+        "tree" => tree_words(alloc, words),
         _ => None,
     }
 }
@@ -97,6 +109,46 @@ fn lib_words(alloc: Global, words: &[String]) -> Option<Result<Command, Refusal>
     read_lib(alloc, words).transpose()
 }
 
+/// The words of `build CONFIG OUT`.
+fn build_words(alloc: Global, words: &[String]) -> Option<Result<Command, Refusal>>
+    ensures { IsReadAs asked_by (option_map (λ f. build f.0 f.1) (two_files (behind (map string_bytes words.now)))) result }
+{
+    match two_file_words(alloc, words)? {
+        Ok((config, target)) => Some(Ok(Command::Build { config, target })),
+        Err(refusal) => Some(Err(refusal)),
+    }
+}
+
+/// The words of `tree CONFIG`.
+fn tree_words(alloc: Global, words: &[String]) -> Option<Result<Command, Refusal>>
+    ensures { IsReadAs asked_by (option_map tree (one_file (behind (map string_bytes words.now)))) result }
+{
+    match one_file_words(alloc, words)? {
+        Ok(config) => Some(Ok(Command::Tree { config })),
+        Err(refusal) => Some(Err(refusal)),
+    }
+}
+
+/// The file that the word behind a command's word names.
+fn one_file_words(alloc: Global, words: &[String]) -> Option<Result<FileName, Refusal>>
+    ensures { IsReadAs (λ file. file) (one_file (behind (map string_bytes words.now))) result }
+{
+    if !spell_one_file(words) {
+        return None;
+    }
+    read_one_file(alloc, words).transpose()
+}
+
+/// Whether the words behind a command's word name one file.
+fn spell_one_file(words: &[String]) -> bool
+    ensures { result ≡ is_some (one_file (behind (map string_bytes words.now))) }
+{
+    match words {
+        [_, file] => is_file_word(file),
+        _ => false,
+    }
+}
+
 /// The two files that the words behind a command's word name.
 fn two_file_words(alloc: Global, words: &[String]) -> Option<Result<(FileName, FileName), Refusal>>
     ensures { IsReadAs (λ files. files) (two_files (behind (map string_bytes words.now))) result }
@@ -139,6 +191,14 @@ fn spell_lib(words: &[String]) -> bool
         }
         _ => false,
     }
+}
+
+/// The word of a file, as `clap` reads it.
+fn read_one_file(alloc: Global, words: &[String]) -> Result<Option<FileName>, Refusal>
+    ensures { ReadsAs (λ file. file) (one_file (behind (map string_bytes words.now))) result }
+{
+    let matches = one_match(alloc, words)?;
+    Ok(file_of(matches.get_str("first")))
 }
 
 /// The two words of two files, as `clap` reads them.

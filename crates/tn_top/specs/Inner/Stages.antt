@@ -4,7 +4,9 @@ use Rattle.tn_text.specs.Counts.{Rose}
 use Rattle.tn_io.specs.Stores.{Stored, told}
 use Rattle.tn_top.specs.declared.refusals.Refusal.{Refusal}
 use Rattle.tn_top.specs.declared.refusals.Refusal.TheVariants.{Fault, Limit, Unread, Unwritten, Unprinted, NotEnabled, NoMemory}
-use Rattle.tn_top.specs.Plans.{Answer, fault, limit, Plan, gives, stops, reads, Goes}
+use Rattle.tn_system.specs.Sources.{Sources}
+use Rattle.tn_system.specs.Systems.{SystemState, IsSystem}
+use Rattle.tn_top.specs.Plans.{Answer, fault, limit, IsRefused, Plan, gives, stops, reads, Goes}
 
 -- why a plan gave no value over a store
 unfoldable pub Unable : {A : Type 0} → Plan A → Stored → Stored → Refusal → Type 0
@@ -31,3 +33,11 @@ Makes seen made (Err (Fault file first)) = made ≡ Err (fault file first)
 Makes seen made (Err (Limit word count)) = made ≡ Err (limit word count)
 Makes seen made (Err NoMemory) = ⊤
 Makes seen made (Err _) = ⊥
+
+-- the system of sources, or why there is none; memory may be wanting
+abbrev pub Settles : {T : Type 0} → (T → SystemState) → Sources → Result T Refusal → Type 0
+Settles seen sources (Ok x) = IsSystem sources (seen x)
+Settles seen sources (Err (Fault file first)) = IsRefused sources (fault file first)
+Settles seen sources (Err (Limit word count)) = IsRefused sources (limit word count)
+Settles seen sources (Err NoMemory) = ⊤
+Settles seen sources (Err _) = ⊥

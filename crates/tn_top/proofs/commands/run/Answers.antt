@@ -1,8 +1,12 @@
-use Rattle.std.proofs.Common.{ap, map, string_bytes}
+use Rattle.std.proofs.Common.{◌≡◌, ◌∙◌, sym, ap, subst, map, string_bytes}
+use Rattle.std.proofs.lemmas.Option.{same_Some}
 use Rattle.std.specs.Option.{option_map}
-use Rattle.tn_top.specs.CommandWords.{asked}
+use Rattle.tn_top.specs.CommandWords.{build, asked}
 use Rattle.tn_top.specs.Commands.{plan_of, plan_asked}
 use Rattle.tn_top.specs.Refusals.{end_line}
+use Rattle.tn_top.proofs.PlanLaws.{one_of_asked}
+use Rattle.tn_top.specs.Inner.Ends.{Ends}
+use Rattle.tn_top.proofs.BuildLaws.{ends-built}
 use Rattle.tn_top.proofs.RunLaws.{runs, run_line}
 use Rattle.tn_top.proofs.WordReading.{asked-links, read-some, read-link}
 use Rattle.tn_top.proofs.commands.run.Goals as goal
@@ -29,6 +33,9 @@ returns-clause-status g c =
     (g.S.Store.stored c.args.store.now) (g.S.Store.stored c.perform-ended.new.store) (g.O.Out.printed c.args.out.now)
     (g.O.Out.printed c.perform-ended.new.out) c.perform-ended.result (c.perform-ended.ensures.ends found.what found.reads)
     c.status_of.result c.status_of.ensures).status_is
+
+pub returns-clause-one : goal.returns-clause-one
+returns-clause-one g c = λ fs a b h k. one_of_asked (plan_asked (map string_bytes c.args.words.now)) fs a b h k
 
 pub returns-clause-fault : goal.returns-clause-fault
 returns-clause-fault g c =
@@ -69,6 +76,17 @@ returns-clause-closed g c =
     (g.S.Store.stored c.args.store.now) (g.S.Store.stored c.perform-ended.new.store) (g.O.Out.printed c.args.out.now)
     (g.O.Out.printed c.perform-ended.new.out) c.perform-ended.result (c.perform-ended.ensures.ends found.what found.reads)
     c.status_of.result c.status_of.ensures).closed
+
+pub returns-clause-built : goal.returns-clause-built
+returns-clause-built g c = λ config target is said.
+    let found = read-some (asked (map string_bytes c.args.words.now)) c.in-Some.command c.in-Some.ensures in
+    let what : found.what ≡ build config target = same_Some found.what (build config target) (sym found.is ∙ is) in
+    let ended = c.perform-ended.ensures.ends found.what found.reads in
+    ends-built config target (g.S.Store.stored c.args.store.now) (g.S.Store.stored c.perform-ended.new.store)
+    (g.O.Out.printed c.args.out.now) (g.O.Out.printed c.perform-ended.new.out) c.perform-ended.result
+    (subst (λ a. Ends (plan_of a) (g.S.Store.stored c.args.store.now) (g.S.Store.stored c.perform-ended.new.store)
+    (g.O.Out.printed c.args.out.now) (g.O.Out.printed c.perform-ended.new.out) c.perform-ended.result) what ended)
+    (sym c.status_of.ensures ∙ said)
 
 pub returns-clause-print : goal.returns-clause-print
 returns-clause-print g c =

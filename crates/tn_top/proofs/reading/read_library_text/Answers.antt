@@ -4,7 +4,8 @@ use Rattle.tn_text.proofs.Results.{of-error}
 use Rattle.tn_module.specs.Modules.{Parts}
 use Rattle.tn_top.specs.declared.refusals.Refusal.TheVariants.{Limit}
 use Rattle.tn_top.specs.Plans.{Plan, limit, then_plan, at_once, each}
-use Rattle.tn_top.specs.Commands.{module_plan, library_text}
+use Rattle.tn_top.specs.ModulePlans.{module_plan}
+use Rattle.tn_top.specs.Commands.{library_text}
 use Rattle.tn_top.specs.Inner.Stages.{Staged}
 use Rattle.tn_top.proofs.StageLaws.{staged-stopped, staged-then, staged-made}
 use Rattle.tn_top.proofs.LibraryTexts.{sources-within, sources-above}
@@ -34,7 +35,7 @@ returns-in_err-modules g c =
     (of-error (Staged seen (then_plan (each module_plan sources) (λ modules. at_once (library_text modules))) before after)
     c.from_residual.result c.in_err-modules.field-0.0 c.from_residual.ensures.1
     (staged-stopped all_seen seen (λ modules. at_once (library_text modules)) (each module_plan sources) before after
-    c.in_err-modules.field-0.0 c.in_err-modules.ensures))
+    c.in_err-modules.field-0.0 c.in_err-modules.ensures.staged))
 
 pub returns : goal.returns
 returns g c =
@@ -45,4 +46,4 @@ returns g c =
     subst (λ (p : Plan (List ℕ)). Staged seen p before after c.library_text.result)
     (sym (sources-within sources (omega (arith, c.if-sources-gt-MODULE_LIMIT.false))))
     (staged-then all_seen seen (λ ms. at_once (library_text ms)) (each module_plan sources) before after after modules c.library_text.result
-    c.in_ok-modules.ensures (staged-made seen (library_text modules.items) after c.library_text.result c.library_text.ensures))
+    c.in_ok-modules.ensures.staged (staged-made seen (library_text modules.items) after c.library_text.result c.library_text.ensures))

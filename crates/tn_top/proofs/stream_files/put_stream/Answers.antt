@@ -1,17 +1,18 @@
 use Rattle.std.proofs.Common.{rules, [], sym, subst}
-use Rattle.tn_stream.specs.Images.{image_of}
-use Rattle.tn_stream.specs.Streams.{one_processor, stream}
+use Rattle.tn_stream.specs.Images.{images_of}
+use Rattle.tn_stream.specs.LoadBranches.{whole_branch}
+use Rattle.tn_stream.specs.Streams.{stream}
 use Rattle.tn_top.specs.Outcomes.{Told, Holds}
 use Rattle.tn_top.proofs.Puts.{on_err_always, on_ok_more, on_err_more, refused-create, made-empty, refused-close}
 use Rattle.tn_top.proofs.Emitted.{grown-made, grown-made-part, made-there}
-use Rattle.tn_top.proofs.one_processor.put_stream.Goals as goal
+use Rattle.tn_top.proofs.stream_files.put_stream.Goals as goal
 
 pub returns-in_err-create : goal.returns-in_err-create
 returns-in_err-create g c = record {
   ok = search rules;
   closed = search rules;
   err = on_err_always c.from_residual.result (refused-create c.args.name.now
-      (stream (one_processor c.args.link (image_of c.args.image.now))) (g.S.Store.stored c.args.store.now).files
+      (stream (whole_branch (images_of c.args.images.now) c.args.tree.now.nodes.items)) (g.S.Store.stored c.args.store.now).files
       (g.S.Store.stored c.create.new.self).files c.in_err-create.ensures.creates.err.0);
   failed = search rules;
   count = search rules;
@@ -25,7 +26,7 @@ emit-requires-clause-there g c =
 
 pub returns-in_err-emit : goal.returns-in_err-emit
 returns-in_err-emit g c =
-    let text = stream (one_processor c.args.link (image_of c.args.image.now)) in
+    let text = stream (whole_branch (images_of c.args.images.now) c.args.tree.now.nodes.items) in
     let before = (g.S.Store.stored c.args.store.now).files in
     let made = (g.S.Store.stored c.create.new.self).files in
     record {
@@ -41,7 +42,7 @@ returns-in_err-emit g c =
 
 pub returns : goal.returns
 returns g c =
-    let text = stream (one_processor c.args.link (image_of c.args.image.now)) in
+    let text = stream (whole_branch (images_of c.args.images.now) c.args.tree.now.nodes.items) in
     let before = (g.S.Store.stored c.args.store.now).files in
     let made = (g.S.Store.stored c.create.new.self).files in
     let full = g.S.Store.stored c.emit.new.store in

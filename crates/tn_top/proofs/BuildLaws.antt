@@ -1,0 +1,123 @@
+-- A plan that gives something came to it through each of its parts.
+use Rattle.std.proofs.Common.{◌≡◌, ℕ, ◌≤◌, List, [], length, Option, Some, None, IfSome, Result, refl, sym, ap, ◌∙◌, subst}
+use Rattle.tn_io.specs.FileLists.{Files, held}
+use Rattle.tn_text.specs.declared.limits.TheConstants.{FILE_LIMIT}
+use Rattle.tn_io.specs.Outs.{Printed}
+use Rattle.tn_io.specs.Stores.{Stored}
+use Rattle.tn_config.specs.Configurations.{ConfigState}
+use Rattle.tn_system.specs.Sources.{Sources, module_files, library_files}
+use Rattle.tn_system.specs.Systems.{SystemState, IsSystem}
+use Rattle.tn_top.specs.declared.refusals.Refusal.{Refusal}
+use Rattle.tn_top.specs.declared.refusals.Refusal.TheVariants as refusal
+use Rattle.tn_top.specs.declared.statuses.Status.TheVariants as status
+use Rattle.tn_top.specs.Plans.{Answer, done, Plan, gives, stops, reads, settles, then_plan, each, Goes, stays, reads_on, too_long}
+use Rattle.tn_top.specs.Plans.{settles_on, settles_not}
+use Rattle.tn_top.specs.ModulePlans.{module_plan}
+use Rattle.tn_top.specs.SystemPlans.{config_plan, library_file_plan, sources_of, files_plan, system_plan, system_stream, stream_written}
+use Rattle.tn_top.specs.Refusals.{end_status}
+use Rattle.tn_top.specs.Outcomes.{Told, Holds}
+use Rattle.tn_top.specs.Builds.{IsBuilt}
+use Rattle.tn_top.specs.Inner.Ends.{Ends, wrote_all, showed_all, unable, wrote_part, wrote_for_want, showed_part, showed_for_want}
+use Rattle.tn_top.specs.Inner.Ends.{not_enabled}
+
+module _ {B : Type 0} (files : Option Files) (b : B) where
+  -- a plan that gives a value comes to no other
+  given-same : (a : B) (q : Plan B) → q ≡ gives b → Goes files (gives a) q → a ≡ b
+  given-same a q e stays = cc
+
+  stopped-never : (a : Answer) (q : Plan B) → q ≡ gives b → Goes files (stops a) q → ⊥
+  stopped-never a q e stays = absurd cc
+
+  -- behind a file, and behind a system
+  behind-file : (P : Type 0) (file : List ℕ) (next : List ℕ → Plan B) (q : Plan B) → q ≡ gives b
+      → ((text : List ℕ) → IfSome files (λ fs. held fs file ≡ Some text) → length text ≤ FILE_LIMIT → Goes files (next text) (gives b) → P)
+      → Goes files (reads file next) q → P
+  behind-file P file next q e f stays = absurd cc
+  behind-file P file next q e f (reads_on text is short rest) = f text is short (subst (λ r. Goes files (next text) r) e rest)
+  behind-file P file next q e f (too_long long) = absurd cc
+
+  behind-system : (sources : Sources) (next : SystemState → Plan B) (q : Plan B) → q ≡ gives b → Goes files (settles sources next) q
+      → (y : SystemState) × IsSystem sources y × Goes files (next y) (gives b)
+  behind-system sources next q e stays = absurd cc
+  behind-system sources next q e (settles_on y is rest) = (y, is, subst (λ r. Goes files (next y) r) e rest)
+  behind-system sources next q e (settles_not answer is) = absurd cc
+
+-- a plan with another behind it
+pub came-through : {A B : Type 0} (files : Option Files) (b : B) (p : Plan A) (k : A → Plan B) → Goes files (then_plan p k) (gives b)
+    → (x : A) × Goes files p (gives x) × Goes files (k x) (gives b)
+unfolding then_plan
+came-through files b (gives x) k g = (x, stays, g)
+came-through files b (stops answer) k g = absurd (stopped-never files b answer (gives b) refl g)
+came-through {A} {B} files b (reads file next) k g =
+    behind-file files b ((x : A) × Goes files (reads file next) (gives x) × Goes files (k x) (gives b)) file
+    (λ text. then_plan (next text) k) (gives b) refl
+    (λ text is short rest.
+    let inner = came-through files b (next text) k rest in (inner.0, reads_on text is short inner.1, inner.2)) g
+came-through files b (settles sources next) k g =
+    let found = behind-system files b sources (λ y. then_plan (next y) k) (gives b) refl g in
+    let inner = came-through files b (next found.0) k found.2 in
+    (inner.0, settles_on found.0 found.1 inner.1, inner.2)
+
+-- a system that a plan gives is that of its sources
+pub system-found : (files : Option Files) (file : List ℕ) (c : ConfigState) (y : SystemState)
+    → Goes files (system_plan file) (gives (c, y)) → (s : Sources) × (s.config_file ≡ file) × (s.config ≡ c) × IsSystem s y
+system-found files file c y g =
+    let config = came-through files (c, y) (config_plan file) (λ k. then_plan (files_plan file k) (λ z. gives (k, z))) g in
+    let made = came-through files (c, y) (files_plan file config.0) (λ z. gives (config.0, z)) config.2 in
+    let same : (config.0, made.0) ≡ (c, y) = given-same files (c, y) (config.0, made.0) (gives (c, y)) refl made.2 in
+    let pool = came-through files made.0 (each module_plan (module_files config.0))
+    (λ ms. then_plan (each library_file_plan (library_files config.0)) (λ ls. settles (sources_of file config.0 ms ls) gives)) made.1 in
+    let shelf = came-through files made.0 (each library_file_plan (library_files config.0))
+    (λ ls. settles (sources_of file config.0 pool.0 ls) gives) pool.2 in
+    let sources : Sources = sources_of file config.0 pool.0 shelf.0 in
+    let found = behind-system files made.0 sources gives (gives made.0) refl shelf.2 in
+    let value : found.0 ≡ made.0 = given-same files made.0 found.0 (gives made.0) refl found.2 in
+    (sources, refl, ap (λ p. p.0) same, subst (IsSystem sources) (value ∙ ap (λ p. p.1) same) found.1)
+
+same-written : (target file made bytes : List ℕ) → done (Some (target, made)) [] ≡ done (Some (file, bytes)) []
+    → (file ≡ target) × (bytes ≡ made)
+same-written target file made bytes e =
+    let pair : ◌≡◌ {A = List ℕ × List ℕ} (target, made) (file, bytes) = cc in (ap (λ p. p.0) (sym pair), ap (λ p. p.1) (sym pair))
+
+built : (config target file bytes : List ℕ) (before after : Stored)
+    → Goes before.files (then_plan (system_plan config) (stream_written target)) (gives (done (Some (file, bytes)) []))
+    → Told before.files after.files (Holds file bytes) → IsBuilt config target before after
+built config target file bytes before after g t =
+    let made = came-through before.files (done (Some (file, bytes)) []) (system_plan config) (stream_written target) g in
+    let same : done (Some (target, system_stream made.0.1)) [] ≡ done (Some (file, bytes)) [] =
+    given-same before.files (done (Some (file, bytes)) []) (done (Some (target, system_stream made.0.1)) [])
+    (gives (done (Some (file, bytes)) [])) refl made.2 in
+    let of = system-found before.files config made.0.0 made.0.1 made.1 in
+    let written = same-written target file (system_stream made.0.1) bytes same in
+    record {
+      sources = of.0;
+      system = made.0.1;
+      of_file = of.1;
+      makes = of.3;
+      found = subst (λ c. Goes before.files (system_plan config) (gives (c, made.0.1))) (sym of.2) made.1;
+      written = subst (λ n. Told before.files after.files (Holds n (system_stream made.0.1))) written.0
+          (subst (λ b. Told before.files after.files (Holds file b)) written.1 t);
+    }
+
+-- what is done of a build
+pub ends-built : {T : Type 0} (config target : List ℕ) (before after : Stored) (old new : Printed) (r : Result T Refusal)
+    → Ends (then_plan (system_plan config) (stream_written target)) before after old new r → end_status r ≡ status.Done
+    → IsBuilt config target before after
+ends-built config target before after old new r (wrote_all x file bytes g t o p) e = built config target file bytes before after g t
+ends-built config target before after old new r (showed_all x text g f p) e =
+    let made = came-through before.files (done None text) (system_plan config) (stream_written target) g in
+    let same : done (Some (target, system_stream made.0.1)) [] ≡ done None text =
+    given-same before.files (done None text) (done (Some (target, system_stream made.0.1)) []) (gives (done None text)) refl made.2 in
+    absurd cc
+ends-built config target before after old new r (unable (refusal.Fault file first) u f p) e = absurd cc
+ends-built config target before after old new r (unable (refusal.Limit word count) u f p) e = absurd cc
+ends-built config target before after old new r (unable (refusal.Unread file) u f p) e = absurd cc
+ends-built config target before after old new r (unable (refusal.Unwritten file) u f p) e = absurd cc
+ends-built config target before after old new r (unable refusal.Unprinted u f p) e = absurd cc
+ends-built config target before after old new r (unable (refusal.NotEnabled file line tokens) u f p) e = absurd cc
+ends-built config target before after old new r (unable refusal.NoMemory u f p) e = absurd cc
+ends-built config target before after old new r (wrote_part file bytes g t rose p) e = absurd cc
+ends-built config target before after old new r (wrote_for_want file bytes g t p) e = absurd cc
+ends-built config target before after old new r (showed_part text answer is g f rose b) e = absurd cc
+ends-built config target before after old new r (showed_for_want text answer is g f b) e = absurd cc
+ends-built config target before after old new r (not_enabled file line tokens text g f p) e = absurd cc
