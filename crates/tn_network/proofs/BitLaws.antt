@@ -1,14 +1,14 @@
 -- Bits of words.
 use Rattle.std.proofs.Common.{◌≡◌, ◌≢◌, ℕ, zero, suc, ◌+◌, ◌-◌, ◌*◌, ◌/◌, ◌%◌, ◌^◌, ◌<◌, ◌≤◌, ◌==◌, ◌⊎◌, inl, inr, Bool, true, false}
-use Rattle.std.proofs.Common.{List, length, get_or, set, get_or-set_same, get_or-set_other, refl, sym, ap, subst, ◌∙◌, arith, add-one, w64}
+use Rattle.std.proofs.Common.{List, replicate, length, get_or, set, get_or-set_same, get_or-set_other, refl, sym, ap, subst, ◌∙◌, arith, add-one, w64}
 use native.Mathlib.Nat.{pow-succ', div-eq_of_lt-le}
 use Rattle.std.specs.Prelude.{bit_and, if◌then◌else◌}
 use Rattle.std.specs.Int.{bit_at, trailing_zeros}
-use Rattle.std.proofs.lemmas.Bool.{cases_eq}
+use Rattle.std.proofs.lemmas.Bool.{cases_eq, cases_lt}
 use Rattle.std.proofs.lemmas.Bool.Decides.{nat_tests}
 use Rattle.std.proofs.lemmas.Nat.Bits.{shr_and_one, bit_at-zero, bit_at_set_same, bit_at_set_other, bit_at_clear_same, bit_at_clear_other}
 use Rattle.std.proofs.lemmas.Nat.Bits.{bit_at-trailing_zeros, bit_at_above, bit_at-lt}
-use Rattle.tn_network.specs.Inner.PickBits.{has_bit, with_bit}
+use Rattle.tn_network.specs.Inner.PickBits.{has_bit, with_bit, NoBit, IsFirstBit, IsLastBit}
 
 abbrev pub bit_of : Bool → ℕ
 bit_of true = 1
@@ -97,3 +97,44 @@ has_bit-highest words place top least most small =
 
     doubled : (k : ℕ) → 2 ^ (k + 1) ≡ 2 * 2 ^ k
     doubled k = rw add-one (pow-succ' 2 k)
+
+-- ---- the first word, and the last, that is not 0
+
+pub first-found : (words : List ℕ) (place at : ℕ) → place < length words → 0 < get_or words place 0 → get_or words place 0 < 2 ^ 64
+    → at ≡ trailing_zeros w64 (get_or words place 0) → ((j : ℕ) → j < place → get_or words j 0 ≡ 0) → IsFirstBit words (64 * place + at)
+first-found words place at within some small is none =
+    let low = has_bit-lowest words place some small in
+    record {
+      within = omega (arith, low.0);
+      here = rw is low.1;
+      before = λ j below. elim (cases_lt (j / 64) place) [
+        | inl before ↦ has_bit-none words j (none (j / 64) before)
+        | inr from ↦ low.2 j (omega arith) (omega arith)
+      ];
+    }
+
+pub last-found : (words : List ℕ) (place top : ℕ) → place < length words → 2 ^ top ≤ get_or words place 0
+    → get_or words place 0 < 2 * 2 ^ top → top < 64
+    → ((j : ℕ) → place < j → j < length words → get_or words j 0 ≡ 0) → IsLastBit words (64 * place + top)
+last-found words place top within least most small none =
+    let high = has_bit-highest words place top least most small in
+    record {
+      within = omega arith;
+      here = high.0;
+      behind = λ j above inside. elim (cases_lt place (j / 64)) [
+        | inl behind ↦ has_bit-none words j (none (j / 64) behind (omega arith))
+        | inr from ↦ high.1 j above (omega arith)
+      ];
+    }
+
+pub none-found : (words : List ℕ) → ((j : ℕ) → j < length words → get_or words j 0 ≡ 0) → NoBit words
+none-found words none k within = has_bit-none words k (none (k / 64) (omega arith))
+
+-- words that are all 0 have no bit
+replicate-get : (n j : ℕ) → ◌≡◌ {A = ℕ} (get_or (replicate n 0) j 0) 0
+replicate-get zero j = refl
+replicate-get (suc n) zero = refl
+replicate-get (suc n) (suc j) = replicate-get n j
+
+pub zeros-clear : (n k : ℕ) → has_bit (replicate n 0) k ≡ false
+zeros-clear n k = has_bit-none (replicate n 0) k (replicate-get n (k / 64))

@@ -10,3 +10,5 @@ pub mod PickOrder
 pub mod BitLaws
 pub mod EnabledLaws
 pub mod RenewLaws
+pub mod NetLaws
+pub mod PowerLaws

@@ -1,112 +1,24 @@
 -- The bits of the picks that are renewed.
 use Rattle.std.proofs.Common.{◌≡◌, ◌≢◌, ℕ, zero, suc, ◌+◌, ◌-◌, ◌*◌, ◌/◌, ◌%◌, ◌<◌, ◌≤◌, ◌==◌, ◌⊎◌, inl, inr, Bool, true, false, List, length}
 use Rattle.std.proofs.Common.{refl, sym, ap, subst, ◌∙◌, arith}
-use Rattle.std.specs.Prelude.{nat_lt, nat_le, ◌&&◌, ◌||◌, if◌then◌else◌}
-use Rattle.std.specs.Int.{bit_at}
+use Rattle.std.specs.Prelude.{nat_lt, nat_le, not, is_some, ◌&&◌, ◌||◌, if◌then◌else◌}
 use Rattle.std.proofs.lemmas.Bool.{cases_eq, cases_lt}
 use Rattle.std.proofs.lemmas.Bool.Decides.{nat_tests}
 use Rattle.tn_net.specs.declared.networks.Far.{Far}
 use Rattle.tn_net.specs.declared.networks.Far.TheVariants.{Nothing, Host, Link}
 use Rattle.tn_network.specs.declared.picks.Pick.{Pick}
-use Rattle.tn_network.specs.Boards.{WiredBoard}
-use Rattle.tn_network.specs.Steps.{ready, step, after_pick}
+use Rattle.tn_network.specs.declared.picks.Pick.TheVariants.{HostSend, HostTake, Proc, Send, Take}
+use Rattle.tn_net.specs.Networks.{far_at}
+use Rattle.tn_network.specs.Boards.{WiredBoard, at_node, latch_at}
+use Rattle.tn_network.specs.Steps.{offered, is_wired, ready, step, after_pick}
+use Rattle.tn_network.specs.Holds.{is_held}
 use Rattle.tn_network.specs.Locality.{actor, other_end, IsNotAt, IsLocal}
 use Rattle.tn_network.specs.Nets.{NetState, memory_ops, net_enabled, net_after, net_of, released}
-use Rattle.tn_network.specs.Inner.PickBits.{has_bit, pick_of, numbered, first_number, is_host, is_of, is_at, is_touched, HasRoom, TellPicks}
-use Rattle.tn_network.specs.Inner.PickBits.{IsRenewed, IsAmong, weight, mask, ArePut}
+use Rattle.tn_network.specs.Inner.PickBits.{has_bit, pick_of, numbered, first_number, is_host, is_below, is_of, is_at, is_touched, HasRoom, TellPicks}
+use Rattle.tn_network.specs.Inner.PickBits.{IsRenewed, IsAmong, kind_enabled, IsNet}
 use Rattle.tn_network.proofs.PickOrder.{numbered-pick, parts}
-use Rattle.tn_network.proofs.EnabledLaws.{enabled-same, enabled-past}
-
--- ---- nine bits of a number
-
-least : (on : Bool) → weight on 1 ≤ 1
-least true = omega arith
-least false = omega arith
-
-times : (on : Bool) (value : ℕ) → weight on value ≡ weight on 1 * value
-times true value = omega arith
-times false value = omega arith
-
-tells : (on : Bool) → weight on 1 == 1 ≡ on
-tells true = refl
-tells false = refl
-
-sum : (a b c d e f g h i : ℕ) → ℕ
-sum a b c d e f g h i = a + (b * 2 + c * 4 + (d * 8 + e * 16)) + (f * 32 + g * 64 + (h * 128 + i * 256))
-
-mask-sum : (on : ℕ → Bool)
-    → mask on ≡ sum (weight (on 0) 1) (weight (on 1) 1) (weight (on 2) 1) (weight (on 3) 1) (weight (on 4) 1) (weight (on 5) 1)
-    (weight (on 6) 1) (weight (on 7) 1) (weight (on 8) 1)
-unfolding mask sum
-mask-sum on =
-    rw (times (on 1) 2, times (on 2) 4, times (on 3) 8, times (on 4) 16, times (on 5) 32, times (on 6) 64, times (on 7) 128, times (on 8) 256)
-    refl
-
-module _ (a b c d e f g h i : ℕ) (pa : a ≤ 1) (pb : b ≤ 1) (pc : c ≤ 1) (pd : d ≤ 1) (pe : e ≤ 1) (pf : f ≤ 1) (pg : g ≤ 1) (ph : h ≤ 1)
-    (pi : i ≤ 1) where
-  bit_0 : sum a b c d e f g h i / 1 % 2 ≡ a
-  unfolding sum
-  bit_0 = omega arith
-
-  bit_1 : sum a b c d e f g h i / 2 % 2 ≡ b
-  unfolding sum
-  bit_1 = omega arith
-
-  bit_2 : sum a b c d e f g h i / 4 % 2 ≡ c
-  unfolding sum
-  bit_2 = omega arith
-
-  bit_3 : sum a b c d e f g h i / 8 % 2 ≡ d
-  unfolding sum
-  bit_3 = omega arith
-
-  bit_4 : sum a b c d e f g h i / 16 % 2 ≡ e
-  unfolding sum
-  bit_4 = omega arith
-
-  bit_5 : sum a b c d e f g h i / 32 % 2 ≡ f
-  unfolding sum
-  bit_5 = omega arith
-
-  bit_6 : sum a b c d e f g h i / 64 % 2 ≡ g
-  unfolding sum
-  bit_6 = omega arith
-
-  bit_7 : sum a b c d e f g h i / 128 % 2 ≡ h
-  unfolding sum
-  bit_7 = omega arith
-
-  bit_8 : sum a b c d e f g h i / 256 % 2 ≡ i
-  unfolding sum
-  bit_8 = omega arith
-
--- each of nine numbers
-each_kind : (P : ℕ → Type 0) → P 0 → P 1 → P 2 → P 3 → P 4 → P 5 → P 6 → P 7 → P 8 → (k : ℕ) → k < 9 → P k
-each_kind P a b c d e f g h i zero small = a
-each_kind P a b c d e f g h i (suc zero) small = b
-each_kind P a b c d e f g h i (suc (suc zero)) small = c
-each_kind P a b c d e f g h i (suc (suc (suc zero))) small = d
-each_kind P a b c d e f g h i (suc (suc (suc (suc zero)))) small = e
-each_kind P a b c d e f g h i (suc (suc (suc (suc (suc zero))))) small = f
-each_kind P a b c d e f g h i (suc (suc (suc (suc (suc (suc zero)))))) small = g
-each_kind P a b c d e f g h i (suc (suc (suc (suc (suc (suc (suc zero))))))) small = h
-each_kind P a b c d e f g h i (suc (suc (suc (suc (suc (suc (suc (suc zero)))))))) small = i
-each_kind P a b c d e f g h i (suc (suc (suc (suc (suc (suc (suc (suc (suc k))))))))) small = absurd (omega arith)
-
-pub mask-bit : (on : ℕ → Bool) (kind : ℕ) → kind < 9 → bit_at (mask on) kind == 1 ≡ on kind
-mask-bit on =
-    let w : Bool → ℕ = λ b. weight b 1 in
-    let low : (k : ℕ) → weight (on k) 1 ≤ 1 = λ k. least (on k) in
-    each_kind (λ (k : ℕ). bit_at (mask on) k == 1 ≡ on k)
-    (rw (mask-sum on, bit_0 _ _ _ _ _ _ _ _ _ (low 0) (low 1) (low 2) (low 3) (low 4) (low 5) (low 6) (low 7) (low 8)) (tells (on 0)))
-    (rw (mask-sum on, bit_1 _ _ _ _ _ _ _ _ _ (low 0) (low 1) (low 2) (low 3) (low 4) (low 5) (low 6) (low 7) (low 8)) (tells (on 1)))
-    (rw (mask-sum on, bit_2 _ _ _ _ _ _ _ _ _ (low 0) (low 1) (low 2) (low 3) (low 4) (low 5) (low 6) (low 7) (low 8)) (tells (on 2)))
-    (rw (mask-sum on, bit_3 _ _ _ _ _ _ _ _ _ (low 0) (low 1) (low 2) (low 3) (low 4) (low 5) (low 6) (low 7) (low 8)) (tells (on 3)))
-    (rw (mask-sum on, bit_4 _ _ _ _ _ _ _ _ _ (low 0) (low 1) (low 2) (low 3) (low 4) (low 5) (low 6) (low 7) (low 8)) (tells (on 4)))
-    (rw (mask-sum on, bit_5 _ _ _ _ _ _ _ _ _ (low 0) (low 1) (low 2) (low 3) (low 4) (low 5) (low 6) (low 7) (low 8)) (tells (on 5)))
-    (rw (mask-sum on, bit_6 _ _ _ _ _ _ _ _ _ (low 0) (low 1) (low 2) (low 3) (low 4) (low 5) (low 6) (low 7) (low 8)) (tells (on 6)))
-    (rw (mask-sum on, bit_7 _ _ _ _ _ _ _ _ _ (low 0) (low 1) (low 2) (low 3) (low 4) (low 5) (low 6) (low 7) (low 8)) (tells (on 7)))
-    (rw (mask-sum on, bit_8 _ _ _ _ _ _ _ _ _ (low 0) (low 1) (low 2) (low 3) (low 4) (low 5) (low 6) (low 7) (low 8)) (tells (on 8)))
+use Rattle.tn_network.specs.Hosts.{host_sends, host_takes}
+use Rattle.tn_network.proofs.EnabledLaws.{enabled-same, enabled-past, host-numbers}
 
 -- ---- tests of numbers
 
@@ -114,10 +26,10 @@ test_both : (a b : Bool) → (a && b) ≡ true → (a ≡ true) × (b ≡ true)
 test_both true b h = (refl, h)
 test_both false b h = cc
 
-is_of-parts : (p k : ℕ) → is_of p k ≡ true → (first_number p ≤ k) × (k < first_number p + 9)
-is_of-parts p k h =
-    let low : nat_le (first_number p) k ≡ true = (test_both (nat_le (first_number p) k) (nat_lt k (first_number p + 9)) h).0 in
-    let high : nat_lt k (first_number p + 9) ≡ true = (test_both (nat_le (first_number p) k) (nat_lt k (first_number p + 9)) h).1 in
+is_below-parts : (p kind k : ℕ) → is_below p kind k ≡ true → (first_number p ≤ k) × (k < first_number p + kind)
+is_below-parts p kind k h =
+    let low : nat_le (first_number p) k ≡ true = (test_both (nat_le (first_number p) k) (nat_lt k (first_number p + kind)) h).0 in
+    let high : nat_lt k (first_number p + kind) ≡ true = (test_both (nat_le (first_number p) k) (nat_lt k (first_number p + kind)) h).1 in
     (grind (arith, nat_tests), grind (arith, nat_tests))
 
 is_of-kind : (p kind : ℕ) → kind < 9 → is_of p (first_number p + kind) ≡ true
@@ -128,19 +40,62 @@ is_of-kind p kind small =
 
 -- ---- the picks of one processor
 
-pub renewed-put : (n : NetState) (p : ℕ) (old new : List ℕ)
-    → ArePut (first_number p) (mask (λ kind. net_enabled n (pick_of p kind))) old new → IsRenewed (is_of p) n old new
-renewed-put n p old new put k within = put k within ∙ go (is_of p k) refl
+low_link : (kind : ℕ) → kind == 0 ≡ false → nat_lt kind 5 ≡ true → nat_lt (kind - 1) 4 ≡ true
+low_link kind some low = grind (arith, nat_tests)
+
+high_link : (kind : ℕ) → nat_lt kind 5 ≡ false → kind < 9 → nat_lt (kind - 5) 4 ≡ true
+high_link kind high small = grind (arith, nat_tests)
+
+-- whether it is enabled is what its node tells
+pub kind_enabled-pick : (n : NetState) (p kind : ℕ) → kind < 9 → kind_enabled n p kind ≡ net_enabled n (pick_of p kind)
+kind_enabled-pick n p kind small = go (kind == 0) (nat_lt kind 5) refl refl
   where
-    go : (test : Bool) → is_of p k ≡ test
-        → (if test then bit_at (mask (λ kind. net_enabled n (pick_of p kind))) (k - first_number p) == 1 else has_bit old k)
-        ≡ (if test then net_enabled n (numbered k) else has_bit old k)
+    go : (a b : Bool) → kind == 0 ≡ a → nat_lt kind 5 ≡ b
+        → (if a
+        then at_node false memory_ops.runs n.board.state.nodes p && not (is_held memory_ops n.holds n.board.state.nodes p)
+        else
+        (if b
+        then is_some (offered memory_ops n.board.state.nodes p (kind - 1)) && is_wired (far_at n.board.network p (kind - 1))
+        else at_node false (memory_ops.wants (kind - 5)) n.board.state.nodes p && is_some (latch_at n.board.state.latches p (kind - 5))))
+        ≡ net_enabled n (if a then Proc p false 0 else (if b then Send p (kind - 1) else Take p (kind - 5)))
+    go true b ha hb = refl
+    go false true ha hb = rw (low_link kind ha hb) refl
+    go false false ha hb = rw (high_link kind hb small) refl
+
+-- with one more of them renewed
+pub renewed-more : (n : NetState) (p kind : ℕ) (old between new : List ℕ) (on : Bool) → kind < 9 → length between ≡ length old
+    → on ≡ kind_enabled n p kind → IsRenewed (is_below p kind) n old between → (first : ℕ) → first ≡ first_number p
+    → ((j : ℕ) → j < 64 * length between → has_bit new j ≡ (if j == first + kind then on else has_bit between j))
+    → IsRenewed (is_below p (kind + 1)) n old new
+renewed-more n p kind old between new on small same is_on before first is_first set k within =
+    set_at k (omega arith) ∙ go (k == first_number p + kind) refl
+  where
+    set_at : (j : ℕ) → j < 64 * length between → has_bit new j ≡ (if j == first_number p + kind then on else has_bit between j)
+    set_at =
+        subst (λ (x : ℕ). (j : ℕ) → j < 64 * length between → has_bit new j ≡ (if j == x + kind then on else has_bit between j)) is_first set
+
+    other : k == first_number p + kind ≡ false → nat_lt k (first_number p + kind) ≡ nat_lt k (first_number p + (kind + 1))
+    other apart = grind (arith, nat_tests)
+
+    go : (test : Bool) → k == first_number p + kind ≡ test
+        → (if test then on else has_bit between k) ≡ (if is_below p (kind + 1) k then net_enabled n (numbered k) else has_bit old k)
     go true is =
-        let bounds = is_of-parts p k is in
-        let small : k - first_number p < 9 = omega (arith, bounds.0, bounds.1) in
-        let same : first_number p + (k - first_number p) ≡ k = omega (arith, bounds.0) in
-        mask-bit (λ kind. net_enabled n (pick_of p kind)) (k - first_number p) small
-        ∙ ap (λ pick. net_enabled n pick) (sym (numbered-pick p (k - first_number p) small) ∙ ap numbered same)
+        let here : k ≡ first_number p + kind = grind (arith, nat_tests) in
+        let low : nat_le (first_number p) k ≡ true = grind (arith, nat_tests) in
+        let high : nat_lt k (first_number p + (kind + 1)) ≡ true = grind (arith, nat_tests) in
+        rw (low, high)
+        (is_on ∙ kind_enabled-pick n p kind small
+        ∙ ap (λ pick. net_enabled n pick) (sym (numbered-pick p kind small) ∙ ap numbered (sym here)))
+    go false is = rw (sym (other is)) (before k within)
+
+-- the last of them is the ninth
+pub renewed-start : (n : NetState) (p : ℕ) (old : List ℕ) → IsRenewed (is_below p 0) n old old
+renewed-start n p old k within = go (is_below p 0 k) refl
+  where
+    go : (test : Bool) → is_below p 0 k ≡ test → has_bit old k ≡ (if test then net_enabled n (numbered k) else has_bit old k)
+    go true is =
+        let bounds = is_below-parts p 0 k is in
+        absurd (omega (arith, bounds.0, bounds.1))
     go false is = refl
 
 -- ---- the picks of several
@@ -213,3 +168,43 @@ none_above n k above =
     let past : length n.board.state.nodes ≤ part.0 = omega (arith, part.2, part.3) in
     ap (net_enabled n) (ap numbered part.3 ∙ numbered-pick part.0 part.1 part.2)
     ∙ enabled-past memory_ops n.board.network n.holds n.board.state part.0 part.1 past
+
+-- the numbers below those of one more processor
+pub below_more : (p k : ℕ) → (nat_lt k (first_number p) || is_of p k) ≡ nat_lt k (first_number (p + 1))
+below_more p k = grind (arith, nat_tests)
+
+-- where the bits of all processors are renewed, and the others clear, all tell
+pub tell-all : (n : NetState) (old new : List ℕ) → length new ≡ length old
+    → ((k : ℕ) → first_number (length n.board.state.nodes) ≤ k → k < 64 * length old → has_bit old k ≡ false)
+    → IsRenewed (λ k. nat_lt k (first_number (length n.board.state.nodes))) n old new → TellPicks new n
+tell-all n old new same clear renewed k within = renewed k inside ∙ go (nat_lt k (first_number (length n.board.state.nodes))) refl
+  where
+    inside : k < 64 * length old
+    inside = omega arith
+
+    go : (test : Bool) → nat_lt k (first_number (length n.board.state.nodes)) ≡ test
+        → (if test then net_enabled n (numbered k) else has_bit old k) ≡ net_enabled n (numbered k)
+    go true is = refl
+    go false is =
+        let above : first_number (length n.board.state.nodes) ≤ k = grind (arith, nat_tests) in
+        clear k above inside ∙ sym (none_above n k above)
+
+-- where all tell, those that no pick has are clear
+pub clear-above : (n : NetState) (words : List ℕ) → TellPicks words n → (k : ℕ) → first_number (length n.board.state.nodes) ≤ k
+    → k < 64 * length words → has_bit words k ≡ false
+clear-above n words tell k above within = tell k within ∙ none_above n k above
+
+-- where the two bits of the host are set, they are renewed
+pub host-renewed : (n : NetState) (old between new : List ℕ) (send take : Bool) → length between ≡ length old
+    → send ≡ host_sends n.board.state.host → take ≡ host_takes n.board.state.host
+    → ((j : ℕ) → j < 64 * length old → has_bit between j ≡ (if j == 0 then send else has_bit old j))
+    → ((j : ℕ) → j < 64 * length between → has_bit new j ≡ (if j == 1 then take else has_bit between j)) → IsRenewed is_host n old new
+host-renewed n old between new send take same is_send is_take first second zero within =
+    second 0 (omega arith) ∙ first 0 within ∙ is_send ∙ sym (host-numbers memory_ops n.board.network n.holds n.board.state).0
+host-renewed n old between new send take same is_send is_take first second (suc zero) within =
+    second 1 (omega arith) ∙ is_take ∙ sym (host-numbers memory_ops n.board.network n.holds n.board.state).1
+host-renewed n old between new send take same is_send is_take first second (suc (suc k)) within =
+    let one : suc (suc k) == 1 ≡ false = grind (arith, nat_tests) in
+    let none : suc (suc k) == 0 ≡ false = grind (arith, nat_tests) in
+    let host : is_host (suc (suc k)) ≡ false = grind (arith, nat_tests) in
+    second (suc (suc k)) (omega arith) ∙ rw (one, host) (first (suc (suc k)) within ∙ rw none refl)

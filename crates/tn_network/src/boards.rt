@@ -2,6 +2,7 @@ ghost use Rattle.std.specs.Prelude.{◌≡◌, ℕ, ◌<◌, ◌≤◌, ◌&&◌
 ghost use Rattle.tn_text.specs.declared.limits.TheConstants.{PROCESSOR_LIMIT};
 ghost use Rattle.tn_net.specs.Networks.{IsEnd, far_at};
 ghost use Rattle.tn_node.specs.Nodes.{NodeState, IsNode};
+ghost use Rattle.tn_network.specs.Hosts.{host_sends, host_takes};
 ghost use Rattle.tn_network.specs.Boards.{at_node, latch_at};
 ghost use Rattle.tn_network.specs.NodeOps.{node_ops, is_running};
 ghost use Rattle.tn_network.specs.Steps.{offered, is_wired, ready};
@@ -165,6 +166,20 @@ impl<M: Space> Board<M> {
             Pick::Send(p, l) => (p, self.wiring.far(p, l)),
             Pick::Take(p, l) => (p, self.wiring.far(p, l)),
         }
+    }
+
+    /// Whether the host can send a byte.
+    pub(crate) fn host_sends(&self) -> bool
+        ensures { result ≡ host_sends self.now.state.host }
+    {
+        self.host.can_send()
+    }
+
+    /// Whether the host can take a byte.
+    pub(crate) fn host_takes(&self) -> bool
+        ensures { result ≡ host_takes self.now.state.host }
+    {
+        self.host.can_take()
     }
 
     /// Whether a processor runs.

@@ -3,14 +3,20 @@
 //! held at its entry until the release, by this project's rules.
 #![tactic(auto)]
 
+mod bits;
 mod boards;
+mod holds;
 mod hosts;
+mod nets;
+mod numbers;
 mod picks;
 mod powers;
+mod renewals;
 mod steps;
 mod wirings;
 
 pub use boards::{Board, NoMemory};
 pub use hosts::KEPT_LIMIT;
+pub use nets::Net;
 pub use picks::{NotEnabled, Pick};
 pub use powers::Power;

@@ -1,12 +1,16 @@
 -- The picks that are enabled as bits of words.
-use Rattle.std.specs.Prelude.{◌≡◌, ℕ, ◌+◌, ◌-◌, ◌*◌, ◌/◌, ◌%◌, ◌<◌, ◌≤◌, ◌==◌, nat_lt, nat_le, Bool, true, false, ◌&&◌, ◌||◌, List, length}
-use Rattle.std.specs.Prelude.{◌^◌, bit_and, bit_or, slice_index, Option, Some, None, if◌then◌else◌}
+use Rattle.std.specs.Prelude.{◌≡◌, ℕ, ◌+◌, ◌-◌, ◌*◌, ◌/◌, ◌%◌, ◌<◌, ◌≤◌, ◌==◌, nat_lt, nat_le, Bool, true, false, not, ◌&&◌, ◌||◌, List, length, is_some, None}
+use Rattle.std.specs.Prelude.{◌^◌, bit_and, bit_or, slice_index, Option, Some, if◌then◌else◌}
 use Rattle.std.specs.Int.{w64, bit_at, bit_not}
 use Rattle.tn_net.specs.declared.networks.Far.{Far}
 use Rattle.tn_net.specs.declared.networks.Far.TheVariants.{Nothing, Host, Link}
 use Rattle.tn_network.specs.declared.picks.Pick.{Pick}
 use Rattle.tn_network.specs.declared.picks.Pick.TheVariants.{HostSend, HostTake, Proc, Send, Take}
-use Rattle.tn_network.specs.Nets.{NetState, net_enabled}
+use Rattle.tn_net.specs.Networks.{IsPairing, far_at}
+use Rattle.tn_network.specs.Boards.{at_node, latch_at}
+use Rattle.tn_network.specs.Steps.{offered, is_wired}
+use Rattle.tn_network.specs.Holds.{is_held}
+use Rattle.tn_network.specs.Nets.{NetState, memory_ops, net_enabled}
 
 -- bit k of words of 64 bits
 unfoldable pub has_bit : List ℕ → ℕ → Bool
@@ -30,8 +34,11 @@ numbered k = if k == 0 then HostSend else (if k == 1 then HostTake else pick_of 
 abbrev pub first_number : ℕ → ℕ
 first_number p = 2 + 9 * p
 
+abbrev pub is_below : ℕ → ℕ → ℕ → Bool
+is_below p kind k = nat_le (first_number p) k && nat_lt k (first_number p + kind)
+
 abbrev pub is_of : ℕ → ℕ → Bool
-is_of p k = nat_le (first_number p) k && nat_lt k (first_number p + 9)
+is_of p k = is_below p 9 k
 
 abbrev pub is_host : ℕ → Bool
 is_host k = nat_lt k 2
@@ -45,6 +52,16 @@ is_at (Link q m) k = is_of q k
 abbrev pub is_touched : ℕ → Far → ℕ → Bool
 is_touched p far k = is_host k || (is_of p k || is_at far k)
 
+-- whether the pick of a processor with a number from 0 to 8 is enabled, as its node tells it
+abbrev pub kind_enabled : NetState → ℕ → ℕ → Bool
+kind_enabled n p kind =
+    if kind == 0
+    then at_node false memory_ops.runs n.board.state.nodes p && not (is_held memory_ops n.holds n.board.state.nodes p)
+    else
+    (if nat_lt kind 5
+    then is_some (offered memory_ops n.board.state.nodes p (kind - 1)) && is_wired (far_at n.board.network p (kind - 1))
+    else at_node false (memory_ops.wants (kind - 5)) n.board.state.nodes p && is_some (latch_at n.board.state.latches p (kind - 5)))
+
 -- the number of a pick, if there is such a pick in a network of so many processors; other timeslices and
 -- clocks have the number of the one in order
 abbrev pub number_of : ℕ → Pick → Option ℕ
@@ -53,6 +70,14 @@ number_of count HostTake = Some 1
 number_of count (Proc p slice clock) = if nat_lt p count then Some (first_number p) else None
 number_of count (Send p l) = if nat_lt p count && nat_lt l 4 then Some (first_number p + (1 + l)) else None
 number_of count (Take p l) = if nat_lt p count && nat_lt l 4 then Some (first_number p + (5 + l)) else None
+
+-- the clock of a pick is a word
+abbrev pub HasWord : Pick → Type 0
+HasWord HostSend = Unit {0}
+HasWord HostTake = Unit {0}
+HasWord (Proc p slice clock) = clock < 2 ^ 32
+HasWord (Send p l) = Unit {0}
+HasWord (Take p l) = Unit {0}
 
 -- there is a bit for each pick of so many processors
 abbrev pub HasRoom : ℕ → List ℕ → Type 0
@@ -73,27 +98,29 @@ IsAmong count Nothing = Unit {0}
 IsAmong count Host = Unit {0}
 IsAmong count (Link q m) = q < count
 
--- ---- nine bits
+-- ---- the first and the last bit
 
-abbrev pub weight : Bool → ℕ → ℕ
-weight true value = value
-weight false value = 0
+abbrev pub NoBit : List ℕ → Type 0
+NoBit words = (k : ℕ) → k < 64 * length words → has_bit words k ≡ false
 
--- the number whose nine lowest bits are these
-unfoldable pub mask : (ℕ → Bool) → ℕ
-mask on =
-    weight (on 0) 1 + (weight (on 1) 2 + weight (on 2) 4 + (weight (on 3) 8 + weight (on 4) 16))
-    + (weight (on 5) 32 + weight (on 6) 64 + (weight (on 7) 128 + weight (on 8) 256))
+pub record IsFirstBit (words : List ℕ) (k : ℕ) : Type 0 where
+  pub within : k < 64 * length words
+  pub here : has_bit words k ≡ true
+  pub before : (j : ℕ) → j < k → has_bit words j ≡ false
 
--- nine bits from one on are the lowest of a number, and the others are as before
-abbrev pub ArePut : ℕ → ℕ → List ℕ → List ℕ → Type 0
-ArePut from value old new =
-    (k : ℕ) → k < 64 * length old
-    → has_bit new k ≡ (if nat_le from k && nat_lt k (from + 9) then bit_at value (k - from) == 1 else has_bit old k)
+pub record IsLastBit (words : List ℕ) (k : ℕ) : Type 0 where
+  pub within : k < 64 * length words
+  pub here : has_bit words k ≡ true
+  pub behind : (j : ℕ) → k < j → j < 64 * length words → has_bit words j ≡ false
+
+abbrev pub IsEdgeBit : Bool → List ℕ → ℕ → Type 0
+IsEdgeBit true words k = IsLastBit words k
+IsEdgeBit false words k = IsFirstBit words k
 
 -- What holds of each network: an entry for each processor, and bits that tell of each pick.
 pub record IsNet (words : List ℕ) (n : NetState) : Type 0 where
   pub entries : length n.holds.entries ≡ length n.board.state.nodes
   pub room : HasRoom (length n.board.state.nodes) words
-  pub few : length words < 2 ^ 32
+  pub few : length words < 2 ^ 16
+  pub pairing : IsPairing n.board.network
   pub tell : TellPicks words n
