@@ -1,0 +1,14 @@
+pub mod HostLaws
+pub mod NodeLists
+pub mod WireLaws
+pub mod LocalLaws
+pub mod NodeLaws
+pub mod BoardSteps
+pub mod PickParts
+pub mod NewBoards
+pub mod PickOrder
+pub mod BitLaws
+pub mod EnabledLaws
+pub mod RenewLaws
+pub mod NetLaws
+pub mod PowerLaws

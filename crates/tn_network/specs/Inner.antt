@@ -1,0 +1,3 @@
+-- What inner functions and loops hold to: no public clause cites it.
+pub mod FarEnds
+pub mod PickBits

@@ -1,0 +1,12 @@
+pub mod Hosts
+pub mod Boards
+pub mod NodeOps
+pub mod Steps
+pub mod Holds
+pub mod PickLists
+pub mod Resets
+pub mod Locality
+pub mod Wires
+pub mod Nets
+pub mod Loads
+pub mod Inner
