@@ -1,6 +1,7 @@
 -- Bits of words.
 use Rattle.std.proofs.Common.{◌≡◌, ◌≢◌, ℕ, zero, suc, ◌+◌, ◌-◌, ◌*◌, ◌/◌, ◌%◌, ◌^◌, ◌<◌, ◌≤◌, ◌==◌, ◌⊎◌, inl, inr, Bool, true, false}
-use Rattle.std.proofs.Common.{List, replicate, length, get_or, set, get_or-set_same, get_or-set_other, refl, sym, ap, subst, ◌∙◌, arith, add-one, w64}
+use Rattle.std.proofs.Common.{List, replicate, length, get_or, set, get_or-set_same, get_or-set_other, refl, sym, ap, subst, ◌∙◌}
+use Rattle.std.proofs.Common.{arith, add-one, w64}
 use native.Mathlib.Nat.{pow-succ', div-eq_of_lt-le}
 use Rattle.std.specs.Prelude.{bit_and, if◌then◌else◌}
 use Rattle.std.specs.Int.{bit_at, trailing_zeros}
@@ -66,7 +67,8 @@ has_bit-lowest words place some small =
     let low = bit_at-trailing_zeros w64 (get_or words place 0) some small in
     let at : ℕ = trailing_zeros w64 (get_or words place 0) in
     let here : (64 * place + trailing_zeros w64 (get_or words place 0)) / 64 ≡ place = omega (arith, low.0) in
-    let there : (64 * place + trailing_zeros w64 (get_or words place 0)) % 64 ≡ trailing_zeros w64 (get_or words place 0) = omega (arith, low.0) in (
+    let there : (64 * place + trailing_zeros w64 (get_or words place 0)) % 64 ≡ trailing_zeros w64 (get_or words place 0) =
+    omega (arith, low.0) in (
       low.0,
       rw (here, there, low.1) refl,
       λ j above below.
@@ -88,7 +90,8 @@ has_bit-highest words place top least most small =
           let word : j / 64 ≡ place = omega arith in
           let rest : top < j % 64 = omega arith in
           let none : bit_at (get_or words place 0) (j % 64) ≡ 0 =
-          bit_at_above (get_or words place 0) (top + 1) (j % 64) (subst (λ (x : ℕ). get_or words place 0 < x) (sym (doubled top)) most) (omega arith) in
+          bit_at_above (get_or words place 0) (top + 1) (j % 64) (subst (λ (x : ℕ). get_or words place 0 < x) (sym
+          (doubled top)) most) (omega arith) in
           rw (word, none) refl,
     )
   where

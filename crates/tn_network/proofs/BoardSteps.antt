@@ -1,5 +1,6 @@
 -- The board that each kind of pick leaves, by its parts.
-use Rattle.std.proofs.Common.{◌≡◌, ℕ, ◌+◌, ◌*◌, ◌<◌, ◌^◌, Bool, true, false, List, length, get_or, set, Option, Some, None, refl, sym, ap, subst, ◌∙◌, arith}
+use Rattle.std.proofs.Common.{◌≡◌, ℕ, ◌+◌, ◌*◌, ◌<◌, ◌^◌, Bool, true, false, List, length, get_or, set, Option, Some, None, refl, sym}
+use Rattle.std.proofs.Common.{ap, subst, ◌∙◌, arith}
 use Rattle.std.specs.Prelude.{slice_get, slice_index_or, is_some, unwrap_or, nat_lt, ◌&&◌}
 use Rattle.std.proofs.lemmas.Bool.Decides.{nat_tests}
 use Rattle.std.proofs.lemmas.Option.{slice_get_within}
@@ -56,7 +57,8 @@ module _ {N : Type 0} (ops : NodeOps N) (network : NetworkState) (s : BoardState
   pub take-link : ready ops network s (Take p l) ≡ true → l < 4
   take-link r = low (both (nat_lt l 4) (at_node false (ops.wants l) s.nodes p && is_some (latch_at s.latches p l)) r).0
 
-  take-both : ready ops network s (Take p l) ≡ true → (at_node false (ops.wants l) s.nodes p ≡ true) × (is_some (latch_at s.latches p l) ≡ true)
+  take-both : ready ops network s (Take p l) ≡ true
+      → (at_node false (ops.wants l) s.nodes p ≡ true) × (is_some (latch_at s.latches p l) ≡ true)
   take-both r =
       both (at_node false (ops.wants l) s.nodes p) (is_some (latch_at s.latches p l))
       (both (nat_lt l 4) (at_node false (ops.wants l) s.nodes p && is_some (latch_at s.latches p l)) r).1
@@ -128,11 +130,16 @@ ends_in ops IsSound network s p l b r = go (far_at network p l) refl
 
 module _ {M : Type 0} (access : Access M) (network : NetworkState) (s : BoardState (NodeState M)) (p l : ℕ) where
   pub taken-awaits_far : IsBoard (node_ops access) (λ n. IsNode n) network s → ready (node_ops access) network s (Take p l) ≡ true
-      → (laws : IsSpace access) (byte : ℕ) → Awaits (node_ops access) (changed ((node_ops access).take l byte) s.nodes p) (far_at network p l)
+      → (laws : IsSpace access) (byte : ℕ) → Awaits (node_ops access) (changed ((node_ops access).take l byte) s.nodes p)
+      (far_at network p l)
   taken-awaits_far b r laws byte = go (far_at network p l) refl
     where
       end : IsEnd network p l
-      end = record { processor = omega (arith, take-within (node_ops access) network s p l r, b.nodes); link = take-link (node_ops access) network s p l r }
+      end = record {
+        processor = omega (arith, take-within (node_ops access) network s p l r, b.nodes);
+        link =
+            take-link (node_ops access) network s p l r;
+      }
 
       go : (far : Far) → far_at network p l ≡ far → Awaits (node_ops access) (changed ((node_ops access).take l byte) s.nodes p) far
       go Nothing is = tt
@@ -142,5 +149,13 @@ module _ {M : Type 0} (access : Access M) (network : NetworkState) (s : BoardSta
           let full = take-full (node_ops access) network s p l r in
           let waits : at_node false ((node_ops access).awaits m) s.nodes q ≡ true = rw is at (b.waits p l full.0 end full.1) in
           let same = at_node-changed false ((node_ops access).awaits m) ((node_ops access).take l byte) s.nodes p q (λ n at.
-          (node-lawful access laws).take_awaits l byte m n (b.sound p n at)) in
-          (let few = far_end.processor in omega (arith, b.nodes, length-changed ((node_ops access).take l byte) s.nodes p), far_end.link, same ∙ waits)
+          (node-lawful access laws).take_awaits l byte m n (b.sound p n at)) in (
+            let few = far_end.processor in omega (
+              arith,
+              b.nodes,
+              length-changed
+                  ((node_ops access).take l byte) s.nodes p,
+            ),
+            far_end.link,
+            same ∙ waits,
+          )

@@ -68,7 +68,8 @@ pub enabled-ready : (n : NetState) (pick : Pick) → net_enabled n pick ≡ true
 enabled-ready n HostSend h = h
 enabled-ready n HostTake h = h
 enabled-ready n (Proc p slice clock) h =
-    (both (ready memory_ops n.board.network n.board.state (Proc p slice clock)) (not (is_held memory_ops n.holds n.board.state.nodes p)) h).0
+    (both (ready memory_ops n.board.network n.board.state (Proc p slice clock)) (not
+    (is_held memory_ops n.holds n.board.state.nodes p)) h).0
 enabled-ready n (Send p l) h = h
 enabled-ready n (Take p l) h = h
 
@@ -142,8 +143,14 @@ module _ (n : NetState) (words : List ℕ) (net : IsNet words n) where
       let same : y ≡ numbered j = same_Some y (numbered j) (sym at ∙ picks-get (length n.board.state.nodes) j low) in
       ap (net_enabled n) same ∙ sym (net.tell j (let room = net.room in omega arith))
 
-  within_order : (j : ℕ) (y : Pick) → slice_get (picks (length n.board.state.nodes)) j ≡ Some y → j < first_number (length n.board.state.nodes)
-  within_order j y at = omega (arith, slice_get_within (picks (length n.board.state.nodes)) j y at, length-picks (length n.board.state.nodes))
+  within_order : (j : ℕ) (y : Pick) → slice_get (picks (length n.board.state.nodes)) j ≡ Some y
+      → j < first_number (length n.board.state.nodes)
+  within_order j y at = omega (
+    arith,
+    slice_get_within (picks (length n.board.state.nodes)) j y at,
+    length-picks
+        (length n.board.state.nodes),
+  )
 
   pub first-none : (back : Bool) → NoBit words → first_pick memory_ops n.board.network n.holds back n.board.state ≡ None
   first-none false none =
@@ -220,8 +227,10 @@ module _ (n : NetState) (words : List ℕ) (net : IsNet words n) where
   )
 
 pub seen-rest : (n m : NetState) → n ≡ m → (rest : Bool)
-    → (IsTrue rest → AtRest memory_ops n.board.network n.holds n.board.state) × (AtRest memory_ops n.board.network n.holds n.board.state → IsTrue rest)
-    → (IsTrue rest → AtRest memory_ops m.board.network m.holds m.board.state) × (AtRest memory_ops m.board.network m.holds m.board.state → IsTrue rest)
+    → (IsTrue rest → AtRest memory_ops n.board.network n.holds n.board.state)
+    × (AtRest memory_ops n.board.network n.holds n.board.state → IsTrue rest)
+    → (IsTrue rest → AtRest memory_ops m.board.network m.holds m.board.state)
+    × (AtRest memory_ops m.board.network m.holds m.board.state → IsTrue rest)
 seen-rest n m is rest =
     subst (λ (x : NetState). (IsTrue rest → AtRest memory_ops x.board.network x.holds x.board.state)
     × (AtRest memory_ops x.board.network x.holds x.board.state → IsTrue rest)) is

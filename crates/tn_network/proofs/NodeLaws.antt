@@ -8,7 +8,8 @@ use Rattle.tn_node.specs.declared.modes.Stage.TheVariants.{Reset, Poking, Peekin
 use Rattle.tn_node.specs.Nodes.{NodeState, IsNode, mode_at, mode_of}
 use Rattle.tn_node.specs.Links.{offers}
 use Rattle.tn_node.proofs.Keeping.{taken-node, marked_sent-node, acknowledged-node}
-use Rattle.tn_node.proofs.Awaiting.{marked_sent-awaits, marked_sent-others, taken-awaits, acknowledged-awaits, acknowledged-others, awaits-offers}
+use Rattle.tn_node.proofs.Awaiting.{marked_sent-awaits, marked_sent-others, taken-awaits, acknowledged-awaits, acknowledged-others}
+use Rattle.tn_node.proofs.Awaiting.{awaits-offers}
 use Rattle.tn_node.proofs.Stepping.{step-awaits, step-node}
 use Rattle.tn_network.specs.NodeOps.{is_running, node_ops}
 use Rattle.tn_network.specs.Wires.{AreLawful}

@@ -1,6 +1,7 @@
 -- The board that each kind of pick leaves, as its methods make it: of the parts before, and of what was read and
 -- written.
-use Rattle.std.proofs.Common.{◌≡◌, ℕ, ◌+◌, ◌*◌, ◌<◌, ◌^◌, Bool, true, false, List, length, get_or, set, Option, Some, None, refl, sym, ap, subst, ◌∙◌, arith}
+use Rattle.std.proofs.Common.{◌≡◌, ℕ, ◌+◌, ◌*◌, ◌<◌, ◌^◌, Bool, true, false, List, length, get_or, set, Option, Some, None, refl, sym}
+use Rattle.std.proofs.Common.{ap, subst, ◌∙◌, arith}
 use Rattle.std.specs.Prelude.{is_some, unwrap_or, slice_index_or}
 use Rattle.std.proofs.lemmas.List.{get_or_default}
 use Rattle.std.proofs.lemmas.Option.{same_Some}
@@ -15,11 +16,13 @@ use Rattle.tn_network.specs.declared.picks.Pick.TheVariants.{HostSend, HostTake,
 use Rattle.tn_network.specs.Hosts.{HostState, next_byte, other_bytes, kept_with}
 use Rattle.tn_network.specs.Boards.{BoardState, WiredBoard, board_of, given, at_node, changed, latch_at}
 use Rattle.tn_network.specs.NodeOps.{NodeOps, node_ops}
-use Rattle.tn_network.specs.Steps.{offered, ready, step, after_pick, made_by_pick, latched, host_latched, nodes_acknowledged, host_acknowledged}
+use Rattle.tn_network.specs.Steps.{offered, ready, step, after_pick, made_by_pick, latched, host_latched, nodes_acknowledged}
+use Rattle.tn_network.specs.Steps.{host_acknowledged}
 use Rattle.tn_network.specs.Wires.{IsBoard, MovesByte}
 use Rattle.tn_network.specs.Inner.FarEnds.{EndsIn, Awaits}
 use Rattle.tn_network.proofs.NodeLists.{changed_at}
-use Rattle.tn_network.proofs.BoardSteps.{at_node-read, proc-within, send-offered, send-within, ends_in, take-link, take-within, take-wanted, taken-awaits_far, ready-inside, board-kept, board-after}
+use Rattle.tn_network.proofs.BoardSteps.{at_node-read, proc-within, send-offered, send-within, ends_in, take-link, take-within}
+use Rattle.tn_network.proofs.BoardSteps.{take-wanted, taken-awaits_far, ready-inside, board-kept, board-after}
 
 module _ {M : Type 0} (access : Access M) (laws : IsSpace access) (b : WiredBoard (NodeState M)) (network : NetworkState)
     (nodes : List (NodeState M)) (latches : List (Option ℕ)) (host : HostState)

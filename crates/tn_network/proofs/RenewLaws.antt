@@ -1,5 +1,6 @@
 -- The bits of the picks that are renewed.
-use Rattle.std.proofs.Common.{◌≡◌, ◌≢◌, ℕ, zero, suc, ◌+◌, ◌-◌, ◌*◌, ◌/◌, ◌%◌, ◌<◌, ◌≤◌, ◌==◌, ◌⊎◌, inl, inr, Bool, true, false, List, length}
+use Rattle.std.proofs.Common.{◌≡◌, ◌≢◌, ℕ, zero, suc, ◌+◌, ◌-◌, ◌*◌, ◌/◌, ◌%◌, ◌<◌, ◌≤◌, ◌==◌, ◌⊎◌, inl, inr, Bool, true, false, List}
+use Rattle.std.proofs.Common.{length}
 use Rattle.std.proofs.Common.{refl, sym, ap, subst, ◌∙◌, arith}
 use Rattle.std.specs.Prelude.{nat_lt, nat_le, not, is_some, ◌&&◌, ◌||◌, if◌then◌else◌}
 use Rattle.std.proofs.lemmas.Bool.{cases_eq, cases_lt}
@@ -14,7 +15,8 @@ use Rattle.tn_network.specs.Steps.{offered, is_wired, ready, step, after_pick}
 use Rattle.tn_network.specs.Holds.{is_held}
 use Rattle.tn_network.specs.Locality.{actor, other_end, IsNotAt, IsLocal}
 use Rattle.tn_network.specs.Nets.{NetState, memory_ops, net_enabled, net_after, net_of, released}
-use Rattle.tn_network.specs.Inner.PickBits.{has_bit, pick_of, numbered, first_number, is_host, is_below, is_of, is_at, is_touched, HasRoom, TellPicks}
+use Rattle.tn_network.specs.Inner.PickBits.{has_bit, pick_of, numbered, first_number, is_host, is_below, is_of, is_at, is_touched}
+use Rattle.tn_network.specs.Inner.PickBits.{HasRoom, TellPicks}
 use Rattle.tn_network.specs.Inner.PickBits.{IsRenewed, IsAmong, kind_enabled, IsNet}
 use Rattle.tn_network.proofs.PickOrder.{numbered-pick, parts}
 use Rattle.tn_network.specs.Hosts.{host_sends, host_takes}
@@ -72,7 +74,8 @@ renewed-more n p kind old between new on small same is_on before first is_first 
   where
     set_at : (j : ℕ) → j < 64 * length between → has_bit new j ≡ (if j == first_number p + kind then on else has_bit between j)
     set_at =
-        subst (λ (x : ℕ). (j : ℕ) → j < 64 * length between → has_bit new j ≡ (if j == x + kind then on else has_bit between j)) is_first set
+        subst (λ (x : ℕ). (j : ℕ) → j < 64 * length between
+        → has_bit new j ≡ (if j == x + kind then on else has_bit between j)) is_first set
 
     other : k == first_number p + kind ≡ false → nat_lt k (first_number p + kind) ≡ nat_lt k (first_number p + (kind + 1))
     other apart = grind (arith, nat_tests)
@@ -115,7 +118,8 @@ renewed-both n a b old between new same first second k within =
     go false false h = h
 
 -- a test that agrees
-pub renewed-agree : (n : NetState) (a b : ℕ → Bool) (old new : List ℕ) → ((k : ℕ) → a k ≡ b k) → IsRenewed a n old new → IsRenewed b n old new
+pub renewed-agree : (n : NetState) (a b : ℕ → Bool) (old new : List ℕ) → ((k : ℕ) → a k ≡ b k) → IsRenewed a n old new
+    → IsRenewed b n old new
 renewed-agree n a b old new same h k within =
     h k within ∙ ap (λ (test : Bool). if test then net_enabled n (numbered k) else has_bit old k) (same k)
 
@@ -140,7 +144,8 @@ tell-after n pick old new same tell local renewed k within =
         cc
 
     go : (a b c : Bool) → is_host k ≡ a → is_of (actor n.board.network pick) k ≡ b → is_at (other_end n.board.network pick) k ≡ c
-        → (if a || (b || c) then net_enabled (net_after pick n) (numbered k) else has_bit old k) ≡ net_enabled (net_after pick n) (numbered k)
+        → (if a || (b || c) then net_enabled (net_after pick n) (numbered k) else has_bit old k) ≡ net_enabled (net_after pick n)
+        (numbered k)
     go true b c ha hb hc = refl
     go false true c ha hb hc = refl
     go false false true ha hb hc = refl
@@ -150,11 +155,13 @@ tell-after n pick old new same tell local renewed k within =
         let q : ℕ = part.0 in
         let number : k ≡ first_number part.0 + part.1 = part.3 in
         let apart : part.0 ≢ actor n.board.network pick = λ e.
-        (let here : is_of (actor n.board.network pick) k ≡ true = rw number (subst (λ (x : ℕ). is_of x (first_number part.0 + part.1) ≡ true) e (is_of-kind part.0 part.1 part.2)) in
+        (let here : is_of (actor n.board.network pick) k ≡ true =
+        rw number (subst (λ (x : ℕ). is_of x (first_number part.0 + part.1) ≡ true) e (is_of-kind part.0 part.1 part.2)) in
         let clash : true ≡ false = sym here ∙ hb in
         cc) in
         let same_there = local.others part.0 apart (not_at (other_end n.board.network pick) part.0 part.1 part.2 number hc) in
-        let kept = enabled-same memory_ops n.board.network n.holds n.board.state (net_after pick n).board.state part.0 part.1 part.2 same_there in
+        let kept = enabled-same memory_ops n.board.network n.holds n.board.state
+        (net_after pick n).board.state part.0 part.1 part.2 same_there in
         let pick_there : numbered k ≡ pick_of part.0 part.1 = ap numbered number ∙ numbered-pick part.0 part.1 part.2 in
         tell k inside ∙ ap (net_enabled n) pick_there ∙ sym kept ∙ ap (net_enabled (net_after pick n)) (sym pick_there)
 

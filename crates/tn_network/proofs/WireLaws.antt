@@ -18,7 +18,8 @@ use Rattle.tn_network.specs.NodeOps.{NodeOps}
 use Rattle.tn_network.specs.Steps.{is_wired, offered, ready, step, latched, host_latched, nodes_acknowledged, host_acknowledged}
 use Rattle.tn_network.specs.Wires.{AreLawful, IsBoard, MovesByte, sender_waits}
 use Rattle.tn_network.proofs.NodeLists.{slice_get-changed_other, slice_get-changed_same, length-changed, at_node-met, at_node-given}
-use Rattle.tn_network.proofs.NodeLists.{at_node-changed, at_node-changed_other, each-changed, cases_end, latch-set, latch-set_same, latch-set_other}
+use Rattle.tn_network.proofs.NodeLists.{at_node-changed, at_node-changed_other, each-changed, cases_end, latch-set, latch-set_same}
+use Rattle.tn_network.proofs.NodeLists.{latch-set_other}
 
 -- ---- parts of what is enabled
 
@@ -229,7 +230,8 @@ module _ {N : Type 0} (ops : NodeOps N) (IsSound : N → Type 0) (laws : AreLawf
         kept = b.kept;
         bytes = b.bytes;
         sound = sound;
-        waits = λ q m byte e full. others (host_latched Host (offered ops s.nodes p l) s.host) s.latches (far_at network q m) refl (b.waits q m byte e full);
+        waits = λ q m byte e full. others (host_latched Host (offered ops s.nodes p l) s.host) s.latches (far_at network q m) refl
+            (b.waits q m byte e full);
         host_waits = λ byte full. let at = b.pairing.once p l end is in rw (sym at.0, sym at.1) now_waits;
       }
       go (Link q m) is = record {

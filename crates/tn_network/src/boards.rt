@@ -206,7 +206,8 @@ impl<M: Space> Board<M> {
     /// Whether a processor wants the byte that the latch of a link holds.
     pub(crate) fn can_take(&self, p: u32, l: u8) -> bool
         requires { l < 4 }
-        ensures { result ≡ (at_node false ((node_ops M.access).wants l) self.now.state.nodes p && is_some (latch_at self.now.state.latches p l)) }
+        ensures { result ≡ (at_node false ((node_ops M.access).wants l) self.now.state.nodes p && is_some
+            (latch_at self.now.state.latches p l)) }
     {
         match self.nodes.get(p as usize) {
             Some(node) => node.wants(l) && self.latches[4 * p as usize + usize::from(l)].is_some(),

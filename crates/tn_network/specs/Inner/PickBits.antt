@@ -1,5 +1,6 @@
 -- The picks that are enabled as bits of words.
-use Rattle.std.specs.Prelude.{◌≡◌, ℕ, ◌+◌, ◌-◌, ◌*◌, ◌/◌, ◌%◌, ◌<◌, ◌≤◌, ◌==◌, nat_lt, nat_le, Bool, true, false, not, ◌&&◌, ◌||◌, List, length, is_some, None}
+use Rattle.std.specs.Prelude.{◌≡◌, ℕ, ◌+◌, ◌-◌, ◌*◌, ◌/◌, ◌%◌, ◌<◌, ◌≤◌, ◌==◌, nat_lt, nat_le, Bool, true, false, not, ◌&&◌, ◌||◌}
+use Rattle.std.specs.Prelude.{List, length, is_some, None}
 use Rattle.std.specs.Prelude.{◌^◌, bit_and, bit_or, slice_index, Option, Some, if◌then◌else◌}
 use Rattle.std.specs.Int.{w64, bit_at, bit_not}
 use Rattle.tn_net.specs.declared.networks.Far.{Far}
