@@ -1,0 +1,4 @@
+pub mod Settles
+pub mod NetWalks
+pub mod Targets
+pub mod Inner
