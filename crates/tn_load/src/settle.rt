@@ -4,13 +4,16 @@ use crate::walks::Walk;
 
 /// Steps a state until it is at rest or until `most` steps were made, each the first in order or with
 /// `back` the last, and answers how many steps were made and whether it is at rest then.
-pub fn settle<W: Walk>(walk: &mut W, most: u64, back: bool) -> (u64, bool)
-    ensures { IsSettled W.AtRest (W.next back) most walk.old walk.new result.0 result.1 }
+pub fn settle<W: Walk>(net: &mut W, most: u64, back: bool) -> (u64, bool)
+    ensures { IsSettled W.AtRest (W.next back) most net.old net.new result.0 result.1 }
 {
     let mut steps = 0;
-    while steps < most && !walk.at_rest() {
-        walk.walk(back);
+    while steps < most {
+        if net.at_rest() {
+            return (steps, true);
+        }
+        net.walk(back);
         steps += 1;
     }
-    (steps, walk.at_rest())
+    (steps, net.at_rest())
 }

@@ -9,30 +9,43 @@ use Rattle.tn_net.specs.declared.networks.Far.TheVariants.{Nothing, Host, Link}
 use Rattle.tn_net.specs.Networks.{NetworkState, far_at}
 use Rattle.tn_node.specs.Nodes.{NodeState, IsNode, IsQuiet}
 use Rattle.tn_network.specs.Hosts.{HostState}
-use Rattle.tn_network.specs.Boards.{BoardState, board_of, at_node}
+use Rattle.tn_network.specs.Boards.{BoardState, WiredBoard, board_of, at_node}
 use Rattle.tn_network.specs.NodeOps.{node_ops}
-use Rattle.tn_network.specs.GuardedBoards.{guarded_node, guarded_nodes, AreQuiet}
+use Rattle.tn_network.specs.GuardedBoards.{guarded_node, guarded_nodes, guarded_wired, AreQuiet}
 use Rattle.tn_network.specs.Wires.{IsBoard, sender_waits}
 
 -- ---- lists
 
 -- the nodes with one more of each
-pub guarded-more : (regions : List (ℕ × ℕ)) (nodes : List (NodeState (List ℕ))) (i : ℕ) (r : ℕ × ℕ) (n : NodeState (List ℕ))
-    → i < length regions → i < length nodes → r ≡ slice_index_or regions i r → n ≡ slice_index_or nodes i n
-    → guarded_nodes (take (i + 1) regions) (take (i + 1) nodes)
-    ≡ guarded_nodes (take i regions) (take i nodes) ++ guarded_node r n ∷ []
+more : (regions : List (ℕ × ℕ)) (nodes : List (NodeState (List ℕ))) (i : ℕ) (n : NodeState (List ℕ))
+    → i < length regions → i < length nodes → n ≡ slice_index_or nodes i n
+    → guarded_nodes (take (suc i) regions) (take (suc i) nodes)
+    ≡ guarded_nodes (take i regions) (take i nodes) ++ guarded_node (slice_index_or regions i (0, 0)) n ∷ []
 unfolding guarded_nodes
-guarded-more [] nodes i r n few some at here = absurd (omega (arith, few))
-guarded-more (x ∷ regions) [] i r n few some at here = absurd (omega (arith, some))
-guarded-more (x ∷ regions) (y ∷ nodes) zero r n few some at here = rw (at, here) refl
-guarded-more (x ∷ regions) (y ∷ nodes) (suc i) r n few some at here =
-    ap (λ rest. guarded_node x y ∷ rest) (guarded-more regions nodes i r n (omega (arith, few)) (omega (arith, some)) at here)
+more [] nodes i n few some here = absurd (omega (arith, few))
+more (x ∷ regions) [] i n few some here = absurd (omega (arith, some))
+more (x ∷ regions) (y ∷ nodes) zero n few some here = ap (λ m. guarded_node x m ∷ []) (sym here)
+more (x ∷ regions) (y ∷ nodes) (suc i) n few some here =
+    ap (λ rest. guarded_node x y ∷ rest) (more regions nodes i n (omega (arith, few)) (omega (arith, some)) here)
+
+pub guarded-more : (regions : List (ℕ × ℕ)) (nodes : List (NodeState (List ℕ))) (i : ℕ) (n : NodeState (List ℕ)) (copy : NodeState Guarded)
+    (old new : List (NodeState Guarded)) → length regions ≡ length nodes → i < length nodes → n ≡ slice_index_or nodes i n
+    → copy ≡ guarded_node (slice_index_or regions i (0, 0)) n → old ≡ guarded_nodes (take i regions) (take i nodes)
+    → new ≡ old ++ copy ∷ [] → new ≡ guarded_nodes (take (i + 1) regions) (take (i + 1) nodes)
+guarded-more regions nodes i n copy old new same some here made before pushed =
+    let next : suc i ≡ i + 1 = omega arith in
+    pushed ∙ ap (λ c. old ++ c ∷ []) made
+    ∙ ap (λ o. o ++ guarded_node (slice_index_or regions i (0, 0)) n ∷ []) before
+    ∙ sym (more regions nodes i n (omega (arith, same, some)) some here)
+    ∙ ap (λ k. guarded_nodes (take k regions) (take k nodes)) next
+
+pub guarded-none : (copies : List (NodeState Guarded)) → copies ≡ [] → copies ≡ guarded_nodes [] []
+unfolding guarded_nodes
+guarded-none copies is = is
 
 pub quiet-at : (nodes : List (NodeState (List ℕ))) (i : ℕ) (n : NodeState (List ℕ)) → AreQuiet nodes → i < length nodes
     → n ≡ slice_index_or nodes i n → IsQuiet n
-quiet-at [] i n quiet some here = absurd (omega (arith, some))
-quiet-at (y ∷ nodes) zero n quiet some here = subst (λ (m : NodeState (List ℕ)). IsQuiet m) (sym here) quiet.0
-quiet-at (y ∷ nodes) (suc i) n quiet some here = quiet-at nodes i n quiet.1 (omega (arith, some)) here
+quiet-at nodes i n quiet some here = subst (λ (m : NodeState (List ℕ)). IsQuiet m) (sym here) (quiet i n some)
 
 length-guarded : (regions : List (ℕ × ℕ)) (nodes : List (NodeState (List ℕ))) → length regions ≡ length nodes
     → length (guarded_nodes regions nodes) ≡ length nodes
@@ -96,3 +109,25 @@ guarded-is network nodes latches host regions same b = record {
     far_waits Nothing waits = waits
     far_waits Host waits = waits
     far_waits (Link q m) waits = waits-guarded regions nodes same q m ∙ waits
+
+-- ---- the board that is made of copies
+
+module _ (network : NetworkState) (nodes : List (NodeState (List ℕ))) (latches : List (Option ℕ)) (host : HostState)
+    (b : WiredBoard (NodeState (List ℕ))) (is : record { network = network; state = board_of nodes latches host } ≡ b)
+    (regions : List (ℕ × ℕ)) (w : NetworkState) (ns : List (NodeState Guarded)) (ls : List (Option ℕ)) (h : HostState)
+    (same_wires : w ≡ network) (same_nodes : ns ≡ guarded_nodes regions nodes) (same_latches : ls ≡ latches) (same_host : h ≡ host) where
+  pub guarded-made : length regions ≡ length b.state.nodes → IsBoard (node_ops plain_access) (λ n. IsNode n) network (board_of nodes latches host)
+      → IsBoard (node_ops guarded) (λ n. IsNode n) w (board_of ns ls h)
+  guarded-made many board =
+      let count : length nodes ≡ length b.state.nodes = ap (λ (x : WiredBoard (NodeState (List ℕ))). length x.state.nodes) is in
+      rw (same_wires, same_nodes, same_latches, same_host) (guarded-is network nodes latches host regions (many ∙ sym count) board)
+
+  pub guarded-view : record { network = w; state = board_of ns ls h } ≡ guarded_wired regions b
+  guarded-view =
+      let made : WiredBoard (NodeState Guarded) = record { network = w; state = board_of ns ls h } in
+      let old : WiredBoard (NodeState (List ℕ)) = record { network = network; state = board_of nodes latches host } in
+      let here : made ≡ guarded_wired regions old = rw (same_wires, same_nodes, same_latches, same_host) refl in
+      here ∙ ap (guarded_wired regions) is
+
+  pub guarded-quiet : AreQuiet b.state.nodes → AreQuiet nodes
+  guarded-quiet quiet = subst (λ (x : WiredBoard (NodeState (List ℕ))). AreQuiet x.state.nodes) (sym is) quiet

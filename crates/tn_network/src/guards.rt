@@ -1,4 +1,5 @@
-ghost use Rattle.std.specs.Prelude.{◌≡◌, [], length, IfOk};
+ghost use Rattle.std.specs.Prelude.{◌≡◌, ◌≤◌, [], length, IfOk};
+ghost use Rattle.tn_text.specs.declared.limits.TheConstants.{PROCESSOR_LIMIT};
 ghost use Rattle.tn_network.specs.GuardedBoards.{guarded_nodes, guarded_wired, AreQuiet};
 
 use crate::boards::{Board, NoMemory};
@@ -41,14 +42,15 @@ fn guarded_nodes(
     regions: &[(u32, u32)],
 ) -> Result<Vec<Node<CodeFree>>, NoMemory>
     requires empty { empty.items ≡ [] }
+    requires few { length nodes.now ≤ PROCESSOR_LIMIT }
     requires regions { length regions.now ≡ length nodes.now }
     requires quiet { AreQuiet nodes.now }
     ensures { IfOk result (λ copies. copies.items ≡ guarded_nodes regions.now nodes.now) }
 {
     let mut copies = empty;
-    for node in nodes {
-        let (from, to) = regions[copies.len()];
-        let Ok(copy) = node.guarded(from, to) else {
+    for p in 0..nodes.len() {
+        let (from, to) = regions[p];
+        let Ok(copy) = nodes[p].guarded(from, to) else {
             return Err(NoMemory);
         };
         if copies.push(copy).is_err() {

@@ -20,7 +20,7 @@ pub struct Description<'a> {
 }
 
 /// What fills a memory: numbers that a seed gives, or a byte; and the Error and HaltOnError.
-#[derive(Clone, Copy, Debug, Drop)]
+#[derive(Clone, Copy, Debug)]
 pub struct Fill {
     pub noise: bool,
     pub seed: u32,

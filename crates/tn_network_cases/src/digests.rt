@@ -76,7 +76,8 @@ fn at(p: u32, kind: u64) -> u64 {
 }
 
 fn processor_digest(digest: u64, board: &Board<Memory>, p: u32) -> u64
-    requires { p < length board.now.state.nodes }
+    requires node { p < length board.now.state.nodes }
+    requires latches { p < length board.now.network.sizes }
 {
     let node = board.node(p);
     let mut digest = mixed(digest, mode_number(node.mode()));

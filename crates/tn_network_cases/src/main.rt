@@ -1,8 +1,8 @@
 //! Runs the tables of cases of networks in data/, and prints how many lines each table has, and each
 //! line that does not give what its table says.
 //!
-//! A table is a file of a folder. The first word after the program's name is the folder, and those
-//! behind it are the names of the tables; without names they are those of data/.
+//! A table is a file of a folder. The first word after the program's name is the folder, and the
+//! second the name of a table; without a name the tables are those of data/.
 #![tactic(auto)]
 
 mod descriptions;
@@ -26,18 +26,10 @@ fn main(rt: HostRuntime) -> io::Result<()> {
         None => String::from_str(rt.alloc(), ".")?,
     };
     let mut report = Report::new(rt.alloc());
-    let mut ended = Ok(());
-    let mut named = false;
-    for table in words {
-        named = true;
-        ended = run_file(&rt, folder.as_str(), table.as_str(), &mut report)?;
-        if ended.is_err() {
-            break;
-        }
-    }
-    if !named {
-        ended = run_all(&rt, folder.as_str(), &mut report)?;
-    }
+    let ended = match words.next() {
+        Some(table) => run_file(&rt, folder.as_str(), table.as_str(), &mut report)?,
+        None => run_all(&rt, folder.as_str(), &mut report)?,
+    };
     rt.print(report.text())?;
     rt.println(if ended.is_ok() {
         "all tables were run"

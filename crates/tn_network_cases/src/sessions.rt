@@ -85,12 +85,16 @@ fn link_of(word: &str) -> Result<u8, Stop> {
 /// The picks that words spell, with commas between them.
 fn picks_of(alloc: Global, words: &[&str]) -> Result<Vec<Pick>, Stop> {
     let mut picks = Vec::new(alloc);
-    let mut rest = words;
-    while let Some(place) = rest.iter().position(|word| *word == ",") {
-        picks.push(pick_of(&rest[..place])?)?;
-        rest = &rest[place + 1..];
+    let mut one = Vec::new(alloc);
+    for word in words {
+        if *word == "," {
+            picks.push(pick_of(one.as_slice())?)?;
+            one.clear();
+        } else {
+            one.push(*word)?;
+        }
     }
-    picks.push(pick_of(rest)?)?;
+    picks.push(pick_of(one.as_slice())?)?;
     Ok(picks)
 }
 

@@ -147,11 +147,16 @@ fn filled(alloc: Global, size: usize, fill: Fill) -> Result<Vec<u8>, Stop>
 {
     let mut bytes = vec![in alloc; (fill.seed % 256) as u8; size]?;
     if fill.noise {
-        let mut number = fill.seed;
-        for byte in bytes.iter_mut() {
-            number = number.wrapping_mul(1_664_525).wrapping_add(1_013_904_223);
-            *byte = (number >> 24) as u8;
-        }
+        make_noise(&mut bytes, fill.seed);
     }
     Ok(bytes)
+}
+
+/// Bytes that a seed gives.
+fn make_noise(bytes: &mut [u8], seed: u32) {
+    let mut number = seed;
+    for byte in bytes.iter_mut() {
+        number = number.wrapping_mul(1_664_525).wrapping_add(1_013_904_223);
+        *byte = (number >> 24) as u8;
+    }
 }

@@ -1,9 +1,11 @@
 -- The tests of a loaded network.
 use Rattle.std.specs.Prelude.{◌≡◌, ℕ, ◌*◌, ◌≤◌, ◌==◌, Bool, true, false, not, ◌&&◌, List, [], length, Option, None, Some, Result, Ok, Err, is_none}
+use Rattle.std.specs.List.{list_all}
+use Rattle.std.specs.Str.{bytes_eq}
 use Rattle.tn_text.specs.declared.limits.TheConstants.{PROCESSOR_LIMIT}
 use Rattle.tn_word.specs.Words.{not_process}
 use Rattle.tn_mem.specs.declared.touches.Touch.{Touch}
-use Rattle.tn_mem.specs.Memories.{load}
+use Rattle.tn_mem.specs.Memories.{block, load}
 use Rattle.tn_cpu.specs.declared.registers.Reg.{Reg}
 use Rattle.tn_cpu.specs.declared.registers.Reg.TheVariants.{Undefined, Word}
 use Rattle.tn_node.specs.declared.engines.LinkView.{LinkView}
@@ -12,19 +14,16 @@ use Rattle.tn_node.specs.Nodes.{NodeState}
 use Rattle.tn_network.specs.Hosts.{HostState}
 use Rattle.tn_network.specs.Boards.{WiredBoard, latch_at}
 use Rattle.tn_network.specs.NodeOps.{stands_at}
-use Rattle.tn_network.specs.Loads.{Target}
+use Rattle.tn_network.specs.Loads.{PlacedBytes, Target}
 
--- a board has as many nodes as its network has processors, four latches for each, and they are few
-pub record HasSizes {N : Type 0} (b : WiredBoard N) : Type 0 where
+-- a board has four latches for each of the processors of its network
+pub record HasLatches {N : Type 0} (b : WiredBoard N) : Type 0 where
   pub nodes : length b.state.nodes ≡ length b.network.sizes
   pub latches : length b.state.latches ≡ 4 * length b.state.nodes
-  pub few : length b.state.nodes ≤ PROCESSOR_LIMIT
 
 -- the host has nothing more to send or to take
-pub record IsDone (h : HostState) : Type 0 where
-  pub left : h.left ≡ []
-  pub sent : h.sent ≡ false
-  pub latch : h.latch ≡ None
+abbrev pub is_done : HostState → Bool
+is_done h = length h.left == 0 && (not h.sent && is_none h.latch)
 
 -- the four latches of a processor are empty
 abbrev pub is_empty_at : List (Option ℕ) → ℕ → Bool
@@ -36,20 +35,20 @@ abbrev pub holds_word : ℕ → Reg → Bool
 holds_word word Undefined = false
 holds_word word (Word other) = other == word
 
--- a processor stands at its entry with the registers that it is to have
-abbrev pub has_registers : {M : Type 0} → Target → NodeState M → Bool
-has_registers t n =
+-- a processor stands at its entry, with the workspace pointer, an empty queue and no error
+abbrev pub has_pointers : {M : Type 0} → Target → NodeState M → Bool
+has_pointers t n =
     stands_at t.entry n
-    && (n.cpu.wptr == t.wptr
-    && (holds_word not_process n.cpu.front
-    && (not n.cpu.error
-    && (not n.cpu.halt && (holds_word t.a n.cpu.a && (holds_word t.b n.cpu.b && holds_word t.c n.cpu.c))))))
+    && (n.cpu.wptr == t.wptr && (holds_word not_process n.cpu.front && (not n.cpu.error && not n.cpu.halt)))
 
--- no engine of a link is open
+-- its three registers hold what they are to hold
+abbrev pub has_stack : {M : Type 0} → Target → NodeState M → Bool
+has_stack t n = holds_word t.a n.cpu.a && (holds_word t.b n.cpu.b && holds_word t.c n.cpu.c)
+
+-- no engine of a link is open, and none of a node is
 abbrev pub is_shut : LinkView → Bool
 is_shut view = is_none view.input && is_none view.output
 
--- no engine of a node is
 abbrev pub are_shut : {M : Type 0} → NodeState M → Bool
 are_shut n =
     (is_none (engine_of n.inputs 0) && is_none (engine_of n.outputs 0))
@@ -65,3 +64,13 @@ gave word (Err touch) = false
 -- both timer queues are empty
 abbrev pub has_no_timers : List ℕ → Bool
 has_no_timers m = gave not_process (load m 0x80000024) && gave not_process (load m 0x80000028)
+
+-- bytes stand in a memory at their base
+abbrev pub is_placed : List ℕ → PlacedBytes → Bool
+is_placed m piece = bytes_eq (block m piece.base (length piece.bytes)) piece.bytes
+
+-- a processor is loaded
+abbrev pub is_loaded_node : Target → NodeState (List ℕ) → Bool
+is_loaded_node t n =
+    has_pointers t n
+    && (has_stack t n && (are_shut n && (has_no_timers n.cpu.memory && list_all (λ piece. is_placed n.cpu.memory piece) t.pieces)))
