@@ -1,10 +1,10 @@
 //! Networks that are loaded: the state that they settle to, and the test of it.
 #![tactic(auto)]
 
-mod loaded;
-mod settle;
+mod loads;
+mod settles;
 mod walks;
 
-pub use loaded::loaded;
-pub use settle::settle;
+pub use loads::loaded;
+pub use settles::settle;
 pub use walks::Walk;

@@ -24,6 +24,7 @@ const ENTRY_B: u32 = 0x8000_0200;
 
 /// The word that points to the front of the timer queue of high priority, and that of low priority.
 const TIMER_HIGH: u32 = 0x8000_0024;
+
 const TIMER_LOW: u32 = 0x8000_0028;
 
 /// Whether a network is loaded with these images, one for each processor: the host has no byte left
@@ -158,10 +159,7 @@ fn holds_word(word: u32, register: Reg) -> bool
 fn are_shut(node: &Node<Memory>) -> bool
     ensures { result ≡ are_shut node.now }
 {
-    is_shut(node.link(0))
-        && is_shut(node.link(1))
-        && is_shut(node.link(2))
-        && is_shut(node.link(3))
+    is_shut(node.link(0)) && is_shut(node.link(1)) && is_shut(node.link(2)) && is_shut(node.link(3))
 }
 
 /// Whether no engine of a link is open.
@@ -208,5 +206,5 @@ fn is_placed(memory: &[u8], base: u32, bytes: &[u8]) -> bool
     if at > memory.len() || bytes.len() > memory.len() - at {
         return bytes.is_empty();
     }
-    memory[at..at + bytes.len()] == *bytes
+    memory[at..at + bytes.len()] == bytes[..]
 }

@@ -4,7 +4,7 @@ use Rattle.tn_node.specs.Nodes.{NodeState}
 use Rattle.tn_network.specs.Loads.{Target, IsLoadedNode}
 use Rattle.tn_stream.specs.Images.{images_of}
 use Rattle.tn_load.specs.Targets.{targets_of}
-use Rattle.tn_load.proofs.loaded.are_loaded.Given as goal
+use Rattle.tn_load.proofs.loads.are_loaded.Given as goal
 
 abbrev pub invariant-loop-p : goal.invariant-loop-p
 invariant-loop-p l =
