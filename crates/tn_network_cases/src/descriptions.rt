@@ -59,8 +59,12 @@ fn add<'a>(alloc: Global, found: &mut Description<'a>, line: &'a Line<'_>) -> Re
                 bytes: Vec::from_slice(alloc, &line.bytes)?,
             })?;
         }
-        ["power", fill, error, halt] => found.fills.push(fill_of(false, number(fill)?, error, halt))?,
-        ["noise", seed, error, halt] => found.fills.push(fill_of(true, number(seed)?, error, halt))?,
+        ["power", fill, error, halt] => found
+            .fills
+            .push(fill_of(false, number(fill)?, error, halt))?,
+        ["noise", seed, error, halt] => found
+            .fills
+            .push(fill_of(true, number(seed)?, error, halt))?,
         ["host"] => found.host = Some(line.bytes.as_slice()),
         _ => return Err(Stop::BadCase),
     }

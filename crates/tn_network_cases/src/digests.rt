@@ -43,7 +43,9 @@ fn sum_of(bytes: &[u8]) -> u64 {
         first = first.wrapping_add(u32::from(*byte)) % 65_521;
         second = second.wrapping_add(first) % 65_521;
     }
-    u64::from(second).wrapping_mul(65_536).wrapping_add(u64::from(first))
+    u64::from(second)
+        .wrapping_mul(65_536)
+        .wrapping_add(u64::from(first))
 }
 
 fn host_digest(digest: u64, board: &Board<Memory>) -> u64 {
@@ -72,7 +74,10 @@ fn pick_number(pick: Option<Pick>) -> u64 {
 }
 
 fn at(p: u32, kind: u64) -> u64 {
-    u64::from(p).wrapping_mul(9).wrapping_add(kind).wrapping_add(3)
+    u64::from(p)
+        .wrapping_mul(9)
+        .wrapping_add(kind)
+        .wrapping_add(3)
 }
 
 fn processor_digest(digest: u64, board: &Board<Memory>, p: u32) -> u64

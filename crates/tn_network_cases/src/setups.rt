@@ -94,7 +94,12 @@ fn collected(
     Ok((out.into_bytes(), Some((count, steps))))
 }
 
-fn reset(alloc: Global, network: &Network, found: &Description<'_>, host: Vec<u8>) -> Result<Net, Stop> {
+fn reset(
+    alloc: Global,
+    network: &Network,
+    found: &Description<'_>,
+    host: Vec<u8>,
+) -> Result<Net, Stop> {
     let powers = powers(alloc, network, &found.fills)?;
     let entries = entries(alloc, network.count() as usize, &found.images)?;
     Net::reset(alloc, network, powers, host, &entries)

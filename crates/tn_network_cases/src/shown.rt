@@ -9,7 +9,9 @@ pub fn registers(alloc: Global, view: &CpuView) -> Result<Vec<u8>, Stop> {
     let front = register(alloc, view.front)?;
     let (o, i, w) = (view.oreg, view.iptr, view.wptr);
     let (error, halt) = (u8::from(view.error), u8::from(view.halt));
-    Ok(format!(in alloc; "i={i:X} w={w:X} {stack} o={o:X} f={front} e={error} h={halt}")?.into_bytes())
+    Ok(format!(in alloc;
+        "i={i:X} w={w:X} {stack} o={o:X} f={front} e={error} h={halt}"
+    )?.into_bytes())
 }
 
 fn stack(alloc: Global, view: &CpuView) -> Result<String, Stop> {
