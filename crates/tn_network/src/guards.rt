@@ -3,6 +3,7 @@ ghost use Rattle.tn_text.specs.declared.limits.TheConstants.{PROCESSOR_LIMIT};
 ghost use Rattle.tn_network.specs.GuardedBoards.{guarded_nodes, guarded_wired, AreQuiet};
 
 use crate::boards::{Board, NoMemory};
+use std::alloc::AllocError;
 use tn_mem::{CodeFree, Memory};
 use tn_node::Node;
 
@@ -18,7 +19,7 @@ impl Board<Memory> {
         let Ok(wiring) = self.wiring.copied() else {
             return Err(NoMemory);
         };
-        let Ok(latches) = self.latches.clone() else {
+        let Ok(latches) = copied_latches(&self.latches) else {
             return Err(NoMemory);
         };
         let Ok(host) = self.host.copied() else {
@@ -33,6 +34,13 @@ impl Board<Memory> {
             host,
         })
     }
+}
+
+/// Equal latches.
+fn copied_latches(latches: &Vec<Option<u8>>) -> Result<Vec<Option<u8>>, AllocError>
+    ensures { IfOk result (λ copy. copy.items ≡ latches.now.items) }
+{
+    latches.clone()
 }
 
 /// The nodes over copies of their memories, each with a region that is guarded.
