@@ -177,7 +177,8 @@ Each nodes targets count =
     (p : ℕ) (n : NodeState (List ℕ)) (t : Target) → p < count → slice_get nodes p ≡ Some n → slice_get targets p ≡ Some t
     → IsLoadedNode (λ m. m) n t
 
-pub each-all : (nodes : List (NodeState (List ℕ))) (targets : List Target) → length targets ≡ length nodes → Each nodes targets (length nodes)
+pub each-all : (nodes : List (NodeState (List ℕ))) (targets : List Target) → length targets ≡ length nodes → Each nodes targets
+    (length nodes)
     → AreLoadedNodes (λ m. m) nodes targets
 each-all [] [] same each = tt
 each-all [] (t ∷ targets) same each = absurd (omega (arith, same))

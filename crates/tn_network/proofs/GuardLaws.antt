@@ -116,7 +116,8 @@ module _ (network : NetworkState) (nodes : List (NodeState (List ℕ))) (latches
     (b : WiredBoard (NodeState (List ℕ))) (is : record { network = network; state = board_of nodes latches host } ≡ b)
     (regions : List (ℕ × ℕ)) (w : NetworkState) (ns : List (NodeState Guarded)) (ls : List (Option ℕ)) (h : HostState)
     (same_wires : w ≡ network) (same_nodes : ns ≡ guarded_nodes regions nodes) (same_latches : ls ≡ latches) (same_host : h ≡ host) where
-  pub guarded-made : length regions ≡ length b.state.nodes → IsBoard (node_ops plain_access) (λ n. IsNode n) network (board_of nodes latches host)
+  pub guarded-made : length regions ≡ length b.state.nodes → IsBoard (node_ops plain_access) (λ n. IsNode n) network
+      (board_of nodes latches host)
       → IsBoard (node_ops guarded) (λ n. IsNode n) w (board_of ns ls h)
   guarded-made many board =
       let count : length nodes ≡ length b.state.nodes = ap (λ (x : WiredBoard (NodeState (List ℕ))). length x.state.nodes) is in
