@@ -1,0 +1,3 @@
+pub mod PlainSpaces
+pub mod NodeActs
+pub mod Lives

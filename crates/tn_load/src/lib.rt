@@ -1,0 +1,2 @@
+//! How a stream loads a network of processors, whatever the order of their steps.
+#![tactic(auto)]
