@@ -14,8 +14,11 @@ pub mod Sums
 pub mod Plains
 pub mod Allows
 pub mod Lones
+pub mod LoneNodes
+pub mod Answered
 pub mod Fits
 pub mod Segments
 pub mod Counting
 pub mod TreeActs
 pub mod TreeCounts
+pub mod TreePlaces

@@ -14,6 +14,7 @@ use Rattle.tn_load.specs.Inner.NodeActs.Leads.{done, more}
 use Rattle.tn_load.specs.Inner.Lives.{loader_acts, life, loads_acts, forwards_acts, nop_acts, run_acts, Fits, AreLinked}
 use Rattle.tn_load.proofs.Bootstraps.{in_reset}
 use Rattle.tn_load.proofs.LoaderActs.{takes_of-append, takes_of-forwards, takes_of-nop, takes_of-run}
+use Rattle.tn_load.proofs.Primaries.{HasTimers}
 use Rattle.tn_load.proofs.Lives.{Lives, lives, starting, Any, Whole, at_entry}
 
 -- a run that keeps a fact of each memory, where the fact implies what is to hold at each state
@@ -49,15 +50,27 @@ starting-more site below left =
     rw whole (omega arith)
 
 module _ {M : Type 0} (access : Access M) (space : List ℕ → M) (laws : IsPlainSpace access space) where
+  -- where the lone run of a processor leads to, and what stands in its memory there
+  pub record LoneLife (error halt : Bool) (site : Site) (below : Children Site) (m : List ℕ) : Type 0 where
+    pub after : List ℕ
+    pub run : NodeLone access site.boot (WholeBeforeStart space site below m) (life site below) (in_reset access space laws site.boot error halt m) (at_entry space site.image after)
+    pub timers : HasTimers after
+    pub whole : Whole site.image m after
+
   -- the lone run of any processor of a tree
-  pub lone : (error halt : Bool) (site : Site) (below : Children Site) → site.boot < 4 → (m : List ℕ) → IsMemorySize (length m) → Fits (length m) site.image → AreLinked below → length (wave_below own_load nothing below) < 2 ^ 31 → length (wave_below nothing nop_of below) < 2 ^ 31 → length (wave_below nothing run_of below) < 2 ^ 31 → (after : List ℕ) × NodeLone access site.boot (WholeBeforeStart space site below m) (life site below) (in_reset access space laws site.boot error halt m) (at_entry space site.image after)
+  pub lone : (error halt : Bool) (site : Site) (below : Children Site) → site.boot < 4 → (m : List ℕ) → IsMemorySize (length m) → Fits (length m) site.image → AreLinked below → length (wave_below own_load nothing below) < 2 ^ 31 → length (wave_below nothing nop_of below) < 2 ^ 31 → length (wave_below nothing run_of below) < 2 ^ 31 → LoneLife error halt site below m
   unfolding life
   lone error halt site below link m size fits linked few_load few_sync few_start =
       let run : Lives access space error halt site below laws m = lives access space laws error halt site below link m size fits linked few_load few_sync few_start in
       let R : NodeState M → List Act → Type 0 = WholeBeforeStart space site below m in
       let last = lone-kept access space (Whole site.image m) site.boot R (λ n left q few. q) (record { memory = run.middle; is = refl; fact = run.whole }) run.second in
       let all = lone-before access space Any site.boot R (starting site below) (at_entry space site.image run.after) (λ n left few. absurd (clash n left few)) run.first last in
-      (run.after, subst (λ acts. NodeLone access site.boot R acts (in_reset access space laws site.boot error halt m) (at_entry space site.image run.after)) (append_assoc (loader_acts site.boot) _ _ ∙ ap (λ acts. loader_acts site.boot ++ acts) (append_assoc (loads_acts site.image.segments) _ _)) all)
+      record {
+        after = run.after;
+        run = subst (λ acts. NodeLone access site.boot R acts (in_reset access space laws site.boot error halt m) (at_entry space site.image run.after)) (append_assoc (loader_acts site.boot) _ _ ∙ ap (λ acts. loader_acts site.boot ++ acts) (append_assoc (loads_acts site.image.segments) _ _)) all;
+        timers = run.timers;
+        whole = run.changed;
+      }
     where
       clash : (n : NodeState M) (left : List Act) → length (takes_of (left ++ starting site below)) ≤ length (start_part (record { root = site; below = below })) → ⊥
       clash n left few = let more_left = starting-more site below left in omega arith
