@@ -16,9 +16,12 @@ pub mod Allows
 pub mod Lones
 pub mod LoneNodes
 pub mod Answered
+pub mod Courses
 pub mod Fits
 pub mod Segments
 pub mod Counting
 pub mod TreeActs
 pub mod TreeCounts
 pub mod TreePlaces
+pub mod TreeRuns
+pub mod TreePlans

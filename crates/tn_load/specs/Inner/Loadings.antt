@@ -32,9 +32,9 @@ pub record IsLoading (network : NetworkState) (nodes : List LoadNode) (images : 
   pub tree : IsLoadTree network nodes
   pub whole : IsWholeTree nodes (length network.sizes)
   pub count : length images ≡ length network.sizes
-  pub images : AreImages images
+  pub segments : AreImages images
   pub fits : (p : ℕ) → p < length network.sizes → Fits (slice_index network.sizes p) (image_of images p)
   pub above : (p : ℕ) → p < length network.sizes → load_base ≤ (image_of images p).entry
-  pub powers : AreSized powers network
+  pub sized : AreSized powers network
   pub entries : (p : ℕ) → p < length network.sizes → entry_of holds p ≡ (image_of images p).entry
   pub held : holds.held ≡ true
