@@ -25,3 +25,4 @@ pub mod TreeCounts
 pub mod TreePlaces
 pub mod TreeRuns
 pub mod TreePlans
+pub mod FitTogether

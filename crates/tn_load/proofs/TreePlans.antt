@@ -24,7 +24,7 @@ use Rattle.tn_load.specs.Plans.{Moment, Course, Plan, IsCourse, acts_left, now}
 use Rattle.tn_load.specs.Shares.{IsWireEnd, other_end, taken_by, incoming, outgoing, waiting, latch_of, bytes_in}
 use Rattle.tn_load.specs.UnderWay.{IsUnderWay}
 use Rattle.tn_load.specs.Inner.Lives.{acts_at}
-use Rattle.tn_load.specs.Inner.Loadings.{image_of, no_power, place_of, IsLoading}
+use Rattle.tn_load.specs.Inner.Loadings.{image_at, no_power, place_of, IsLoading}
 use Rattle.tn_load.proofs.Plains.{plain_is_plain}
 use Rattle.tn_load.proofs.Bootstraps.{in_reset}
 use Rattle.tn_load.proofs.Primaries.{HasTimers}
@@ -55,9 +55,9 @@ module _ (network : NetworkState) (nodes : List LoadNode) (images : List ImageBy
   -- where a course ends
   pub record IsAtEntry (p : ℕ) (end : NodeState (List ℕ)) : Type 0 where
     pub memory : List ℕ
-    pub is : end ≡ at_entry (λ m. m) (image_of images p) memory
+    pub is : end ≡ at_entry (λ m. m) (image_at images p) memory
     pub timers : HasTimers memory
-    pub whole : Whole (image_of images p) (power network nodes images powers holds h p).bytes memory
+    pub whole : Whole (image_at images p) (power network nodes images powers holds h p).bytes memory
 
   -- what is known of the course of a processor
   pub record IsPlanned (p : ℕ) (c : Course (NodeState (List ℕ))) : Type 0 where
@@ -88,7 +88,7 @@ module _ (network : NetworkState) (nodes : List LoadNode) (images : List ImageBy
   boots-low : (p : ℕ) → p < length network.sizes → boots p < 4
   boots-low p inside = subst (λ k. k < 4) (sym (boots-is p inside)) (h.whole.placed (place p) (spotted network nodes images powers holds h p inside).within).boot_link
 
-  image-is : (p : ℕ) → p < length network.sizes → (branch network nodes images powers holds h p).root.image ≡ image_of images p
+  image-is : (p : ℕ) → p < length network.sizes → (branch network nodes images powers holds h p).root.image ≡ image_at images p
   image-is p inside = ap (λ s. s.image) (site-is network nodes images powers holds h p inside)
 
   abbrev OwnRun : ℕ → Type 0
@@ -119,7 +119,7 @@ module _ (network : NetworkState) (nodes : List LoadNode) (images : List ImageBy
   unfolding offers
   ended p inside m =
       let at : (branch network nodes images powers holds h p).root.image.entry == entry_of holds p ≡ true =
-          ap (λ i. i.entry == entry_of holds p) (image-is p inside) ∙ (ap (λ e. (image_of images p).entry == e) (h.entries p inside) ∙ same (image_of images p).entry) in
+          ap (λ i. i.entry == entry_of holds p) (image-is p inside) ∙ (ap (λ e. (image_at images p).entry == e) (h.entries p inside) ∙ same (image_at images p).entry) in
       record {
         still = stays holds.held ((branch network nodes images powers holds h p).root.image.entry == entry_of holds p) h.held at;
         offers = each_link (λ l. memory_ops.offers l (at_entry (λ m. m) (branch network nodes images powers holds h p).root.image m) ≡ None) refl refl refl refl;
@@ -152,7 +152,7 @@ module _ (network : NetworkState) (nodes : List LoadNode) (images : List ImageBy
 
   -- ---- the plan
 
-  chosen : (p : ℕ) (test : Bool) → nat_lt p (length network.sizes) ≡ test → Course (NodeState (List ℕ))
+  pub chosen : (p : ℕ) (test : Bool) → nat_lt p (length network.sizes) ≡ test → Course (NodeState (List ℕ))
   chosen p true t = made p (grind (arith, nat_tests))
   chosen p false t = record { boot = 0; moments = []; end = powered_node no_power }
 
@@ -161,7 +161,7 @@ module _ (network : NetworkState) (nodes : List LoadNode) (images : List ImageBy
   chosen-planned p inside true t = made-planned p _
   chosen-planned p inside false t = absurd (grind (arith, nat_tests))
 
-  pub tree_plan : Plan (NodeState (List ℕ))
+  unfoldable pub tree_plan : Plan (NodeState (List ℕ))
   tree_plan =
       record {
         courses = λ p. chosen p (nat_lt p (length network.sizes)) refl;

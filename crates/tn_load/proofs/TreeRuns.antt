@@ -21,7 +21,7 @@ use Rattle.tn_stream.proofs.LengthLaws.{part-bound}
 use Rattle.tn_network.specs.Holds.{HoldState}
 use Rattle.tn_network.specs.Resets.{PowerState}
 use Rattle.tn_load.specs.Inner.Lives.{AreLinked, Fits}
-use Rattle.tn_load.specs.Inner.Loadings.{image_of, no_power, power_at, place_of, IsLoading}
+use Rattle.tn_load.specs.Inner.Loadings.{image_at, no_power, power_at, place_of, IsLoading}
 use Rattle.tn_load.proofs.Plains.{plain_is_plain}
 use Rattle.tn_load.proofs.TreePlaces.{IsPlaceOf, placed}
 use Rattle.tn_load.proofs.Lones.{LoneLife, lone}
@@ -69,11 +69,11 @@ module _ (network : NetworkState) (nodes : List LoadNode) (images : List ImageBy
 
   -- its boot link and its image
   pub site-is : (p : ℕ) → p < length network.sizes
-      → (branch p).root ≡ record { boot = (node_at nodes (spot p)).boot_link; image = image_of images p }
+      → (branch p).root ≡ record { boot = (node_at nodes (spot p)).boot_link; image = image_at images p }
   site-is p inside =
       let at = spotted p inside in
       ap (λ b. b.root) (branch-is images nodes (length network.sizes) h.whole (spot p) at.within)
-      ∙ ap (λ q. record { boot = (node_at nodes (spot p)).boot_link; image = image_of images q }) at.processor
+      ∙ ap (λ q. record { boot = (node_at nodes (spot p)).boot_link; image = image_at images q }) at.processor
 
   linked-all : (p : ℕ) → p < length network.sizes → AreLinked (branch p).below
   linked-all p inside =
@@ -112,5 +112,5 @@ module _ (network : NetworkState) (nodes : List LoadNode) (images : List ImageBy
       lone plain_access (λ m. m) plain_is_plain (power p).error (power p).halt (branch p).root (branch p).below
       (subst (λ s. s.boot < 4) (sym site) (h.whole.placed (spot p) at.within).boot_link) (power p).bytes
       (subst IsMemorySize (sym size) (h.pairing.sizes p inside))
-      (subst (λ s. Fits (length (power p).bytes) s.image) (sym site) (subst (λ n. Fits n (image_of images p)) (sym size) (h.fits p inside)))
+      (subst (λ s. Fits (length (power p).bytes) s.image) (sym site) (subst (λ n. Fits n (image_at images p)) (sym size) (h.fits p inside)))
       (linked-all p inside) (short wave.Load p inside) (short wave.Sync p inside) (short wave.Start p inside)

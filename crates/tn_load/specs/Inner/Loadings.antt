@@ -11,8 +11,8 @@ use Rattle.tn_network.specs.Resets.{PowerState, AreSized}
 use Rattle.tn_load.specs.Inner.Lives.{Fits}
 
 -- the image of a processor
-abbrev pub image_of : List ImageBytes → ℕ → ImageBytes
-image_of images p = slice_index_or images p no_image
+abbrev pub image_at : List ImageBytes → ℕ → ImageBytes
+image_at images p = slice_index_or images p no_image
 
 -- what a processor's power-up is, where there is one
 abbrev pub no_power : PowerState
@@ -33,8 +33,8 @@ pub record IsLoading (network : NetworkState) (nodes : List LoadNode) (images : 
   pub whole : IsWholeTree nodes (length network.sizes)
   pub count : length images ≡ length network.sizes
   pub segments : AreImages images
-  pub fits : (p : ℕ) → p < length network.sizes → Fits (slice_index network.sizes p) (image_of images p)
-  pub above : (p : ℕ) → p < length network.sizes → load_base ≤ (image_of images p).entry
+  pub fits : (p : ℕ) → p < length network.sizes → Fits (slice_index network.sizes p) (image_at images p)
+  pub above : (p : ℕ) → p < length network.sizes → load_base ≤ (image_at images p).entry
   pub sized : AreSized powers network
-  pub entries : (p : ℕ) → p < length network.sizes → entry_of holds p ≡ (image_of images p).entry
+  pub entries : (p : ℕ) → p < length network.sizes → entry_of holds p ≡ (image_at images p).entry
   pub held : holds.held ≡ true
