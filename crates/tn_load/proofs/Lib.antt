@@ -26,3 +26,5 @@ pub mod TreePlaces
 pub mod TreeRuns
 pub mod TreePlans
 pub mod FitTogether
+pub mod PlainFits
+pub mod EndsLoaded

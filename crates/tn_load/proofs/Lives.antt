@@ -34,7 +34,7 @@ use Rattle.tn_load.proofs.Primaries.{HasTimers, Loads, loads}
 use Rattle.tn_load.specs.Inner.Lives.{loader_acts, load_acts, loads_acts, forward_acts, nop_acts, run_acts, part, forwards_acts, with_segments, LieIn, Fits, AreLinked}
 
 -- the same segments over memories that are the same but for the loader's region
-length-with_segments : (segments : List SegmentBytes) (m : List ℕ) (size : ℕ) → length m ≡ size → LieIn size segments → length (with_segments segments m) ≡ size
+pub length-with_segments : (segments : List SegmentBytes) (m : List ℕ) (size : ℕ) → length m ≡ size → LieIn size segments → length (with_segments segments m) ≡ size
 unfolding with_segments
 length-with_segments [] m size is lies = is
 length-with_segments (s ∷ rest) m size is lies =

@@ -3,4 +3,5 @@ pub mod LoneRuns
 pub mod Plans
 pub mod Shares
 pub mod UnderWay
+pub mod Targets
 pub mod Inner
