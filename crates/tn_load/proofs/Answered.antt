@@ -22,7 +22,7 @@ pub data Settled : List Act → Type 0 where
   took : {byte : ℕ} {acts : List Act} → Settled acts → Settled (Takes byte ∷ acts)
   sent_off : {l byte : ℕ} {acts : List Act} → Settled acts → Settled (Sends l byte ∷ (Acks l ∷ acts))
 
-settled-append : {xs ys : List Act} → Settled xs → Settled ys → Settled (xs ++ ys)
+pub settled-append : {xs ys : List Act} → Settled xs → Settled ys → Settled (xs ++ ys)
 settled-append settled t = t
 settled-append (stepped s) t = stepped (settled-append s t)
 settled-append (took s) t = took (settled-append s t)
@@ -62,7 +62,7 @@ settled-loop (suc q) l bytes =
     settled-append (settled-steps 13) (settled-append (settled-takes (take 128 bytes)) (settled-append (settled-steps 4)
     (settled-append (settled-sends l (take 128 bytes)) (settled-append (settled-steps 9) (settled-loop q l (drop 128 bytes))))))
 
-settled-forwards : {A : Type 0} (first last : A → List ℕ) (children : Children A) → Settled (forwards_acts first last children)
+pub settled-forwards : {A : Type 0} (first last : A → List ℕ) (children : Children A) → Settled (forwards_acts first last children)
 unfolding forwards_acts
 settled-forwards first last none = settled
 settled-forwards first last (child l here below others) =
@@ -81,10 +81,13 @@ settled-loader k =
     took (settled-append (settled-takes (primary_bytes k)) (settled-append (settled-steps 33) (settled-append (settled-takes (bytes_of_word 55))
     (settled-append (settled-steps 9) (settled-append (settled-takes secondary_bytes) (settled-steps 19))))))
 
+pub settled-run : (image : ImageBytes) → Settled (run_acts image)
+settled-run image = settled-append (settled-takes (run_command image.entry image.wptr)) (settled-steps 17)
+
 pub settled-life : (site : Site) (below : Children Site) → Settled (life site below)
 unfolding life
 settled-life site below =
     settled-append (settled-loader site.boot) (settled-append (settled-loads site.image.segments)
     (settled-append (settled-forwards own_load nothing below) (settled-append (settled-forwards nothing nop_of below)
     (settled-append (settled-append (settled-takes nop_command) (settled-steps 15)) (settled-append (settled-forwards nothing run_of below)
-    (settled-append (settled-takes (run_command site.image.entry site.image.wptr)) (settled-steps 17)))))))
+    (settled-run site.image))))))

@@ -17,6 +17,7 @@ pub mod Lones
 pub mod LoneNodes
 pub mod Answered
 pub mod Courses
+pub mod Along
 pub mod Fits
 pub mod Segments
 pub mod Counting

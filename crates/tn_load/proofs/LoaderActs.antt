@@ -196,7 +196,7 @@ sends_of-nop : (l : ℕ) → sends_of l nop_acts ≡ []
 unfolding sends_of command_bytes
 sends_of-nop l = refl
 
-sends_of-run : (l : ℕ) (image : ImageBytes) → sends_of l (run_acts image) ≡ []
+pub sends_of-run : (l : ℕ) (image : ImageBytes) → sends_of l (run_acts image) ≡ []
 unfolding sends_of command_bytes
 sends_of-run l image = refl
 
