@@ -22,13 +22,16 @@ use Rattle.tn_load.specs.LoneRuns.{weight, is_waiting}
 use Rattle.tn_load.specs.Plans.{Course, Plan, acts_left, now, picks_left, sum_below}
 use Rattle.tn_load.specs.Shares.{IsWireEnd, other_end, taken_by, incoming, outgoing, waiting, latch_of, bytes_in}
 use Rattle.tn_load.specs.UnderWay.{IsUnderWay}
+use Rattle.tn_load.specs.Keep.{UnderWay, IsRooted}
 use Rattle.tn_load.specs.Inner.Lives.{acts_at}
 use Rattle.tn_load.specs.Inner.Loadings.{no_power, power_at, place_of, IsLoading}
 use Rattle.tn_load.proofs.Answered.{settled-life, settled-waits}
 use Rattle.tn_load.proofs.Counting.{total, total-same, sums-once}
 use Rattle.tn_load.proofs.TreeCounts.{all-picks}
-use Rattle.tn_load.proofs.TreePlaces.{place-is}
-use Rattle.tn_load.proofs.TreeRuns.{spot, branch, power}
+use Rattle.tn_load.proofs.TreePlaces.{place-is, root-processor, under}
+use Rattle.tn_load.proofs.Onward.{follow-weaker}
+use Rattle.tn_stream.proofs.LoadBranchLaws.{parent-before}
+use Rattle.tn_load.proofs.TreeRuns.{spot, branch, power, spotted}
 use Rattle.tn_load.proofs.TreePlans.{Facts, IsPlanned, tree_plan, planned, sent-by, from_far, carried, host-gets, unwired}
 
 abbrev no_byte : Option ℕ
@@ -39,6 +42,9 @@ latches_empty : (n i : ℕ) → get_or (replicate n no_byte) i no_byte ≡ no_by
 latches_empty zero i = refl
 latches_empty (suc n) zero = refl
 latches_empty (suc n) (suc i) = latches_empty n i
+
+link_first : (p l q m : ℕ) → Link p l ≡ Link q m → p ≡ q
+link_first p l q m e = cc
 
 module _ (network : NetworkState) (nodes : List LoadNode) (images : List ImageBytes) (powers : List PowerState) (holds : HoldState)
     (h : IsLoading network nodes images powers holds) where
@@ -118,6 +124,7 @@ module _ (network : NetworkState) (nodes : List LoadNode) (images : List ImageBy
         bytes = wires-first;
         full = full-first;
         wired = λ p l end far. unwired network nodes images powers holds h p l end far;
+        quiet = λ p l end far. none-waits p l end.processor;
         sends = refl;
         waits = refl;
         keeps = refl;
@@ -144,3 +151,61 @@ module _ (network : NetworkState) (nodes : List LoadNode) (images : List ImageBy
           (λ k inside. ap (λ j. weight (acts_at images nodes j)) (place-is network nodes h.pairing h.tree h.whole k inside)) in
       let all = all-picks images nodes (length network.sizes) h.whole in
       omega (arith, own, once, places, all)
+
+  -- nothing being asked of the nodes
+  pub goes-under : UnderWay memory_ops network holds (λ e. []) [] plan board
+  goes-under =
+      let u = under-way in
+      record {
+        pairing = u.pairing;
+        count = u.count;
+        latches = u.latches;
+        nodes = u.nodes;
+        courses = λ p inside. let c = u.courses p inside in record {
+          boot = c.boot;
+          follow = follow-weaker memory_ops (record { holds = holds; processor = p; boot = (plan.courses p).boot })
+              (Facts network nodes images powers holds h p) (λ n left. Unit {0}) (λ n left q. tt) (plan.courses p).moments (plan.courses p).end c.follow;
+          answered = c.answered;
+        };
+        bytes = u.bytes;
+        full = u.full;
+        wired = u.wired;
+        quiet = u.quiet;
+        sends = u.sends;
+        waits = u.waits;
+        keeps = u.keeps;
+        room = u.room;
+      }
+
+  -- each processor takes its bytes from the host or from one whose place is before its own
+  pub rooted : IsRooted network plan
+  rooted =
+      record {
+        rank = λ p. place_of nodes p;
+        most = length nodes;
+        bounded = λ p inside. let at = spotted network nodes images powers holds h p inside in let low = at.within in omega (arith, low);
+        falls = λ p q m inside far. falls p q m inside far (place_of nodes p) refl;
+      }
+    where
+      falls : (p q m : ℕ) → p < length network.sizes → far_at network p (plan.courses p).boot ≡ Link q m → (k : ℕ) → place_of nodes p ≡ k
+          → place_of nodes q < place_of nodes p
+      falls p q m inside far zero is =
+          let at = spotted network nodes images powers holds h p inside in
+          let root : p ≡ network.root = sym at.processor ∙ (ap (λ k. (node_at nodes k).processor) is ∙ root-processor network nodes h.pairing h.tree h.whole) in
+          let link : (plan.courses p).boot ≡ network.root_link =
+              (planned network nodes images powers holds h p inside).boot ∙ (ap (λ k. (node_at nodes k).boot_link) is ∙ h.tree.boot) in
+          let host : far_at network p (plan.courses p).boot ≡ Host =
+              ap (λ x. far_at network x (plan.courses p).boot) root ∙ (ap (λ x. far_at network network.root x) link ∙ h.pairing.hosted) in
+          let never = sym host ∙ far in
+          absurd cc
+      falls p q m inside far (suc k) is =
+          let at = spotted network nodes images powers holds h p inside in
+          let up = under network nodes h.pairing h.tree h.whole (place_of nodes p) (omega (arith, is)) at.within in
+          let there : far_at network p (plan.courses p).boot ≡ Link (node_at nodes up.parent).processor (node_at nodes (place_of nodes p)).parent_link =
+              ap (λ x. far_at network p x) (planned network nodes images powers holds h p inside).boot
+              ∙ (ap (λ x. far_at network x (node_at nodes (place_of nodes p)).boot_link) (sym at.processor) ∙ up.far) in
+          let same : (node_at nodes up.parent).processor ≡ q =
+              link_first (node_at nodes up.parent).processor (node_at nodes (place_of nodes p)).parent_link q m (sym there ∙ far) in
+          let spot_is : place_of nodes q ≡ up.parent = ap (place_of nodes) (sym same) ∙ place-is network nodes h.pairing h.tree h.whole up.parent up.within in
+          let before = parent-before nodes (length network.sizes) h.whole (place_of nodes p) up.parent at.within up.is in
+          omega (arith, spot_is, before)

@@ -29,3 +29,5 @@ pub mod TreePlans
 pub mod FitTogether
 pub mod PlainFits
 pub mod EndsLoaded
+pub mod Onward
+pub mod WholeBefore

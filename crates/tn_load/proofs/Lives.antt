@@ -92,7 +92,7 @@ sync-some : (here : Site) (below : Children Site) → 0 < length (part nothing n
 unfolding command_bytes
 sync-some here below = omega (arith, length-append (wave_below nothing nop_of below) nop_command)
 
-start-some : (here : Site) (below : Children Site) → 0 < length (part nothing run_of here below)
+pub start-some : (here : Site) (below : Children Site) → 0 < length (part nothing run_of here below)
 unfolding command_bytes
 start-some here below = omega (arith, length-append (wave_below nothing run_of below) (run_of here))
 

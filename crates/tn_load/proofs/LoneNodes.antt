@@ -57,6 +57,11 @@ unless_there true false c e = refl
 unless_there false false c e = refl
 unless_there a true c e = cc
 
+-- a node stands at an entry at the end of its acts alone
+abbrev pub StandsLast : {M : Type 0} → ℕ → NodeState M → List Act → Type 0
+StandsLast entry n [] = Unit {0}
+StandsLast entry n (act ∷ acts) = stands_at entry n ≡ false
+
 module _ {M : Type 0} (access : Access M) (holds : HoldState) (p k : ℕ) (link : k < 4) (above : load_base ≤ entry_of holds p) where
   abbrev post : Post
   post = record { holds = holds; processor = p; boot = k }
@@ -82,6 +87,45 @@ module _ {M : Type 0} (access : Access M) (holds : HoldState) (p k : ℕ) (link 
     where
       elsewhere : (x y : ℕ) → nat_lt x load_base ≡ true → load_base ≤ y → x == y ≡ false
       elsewhere x y less more = grind (arith, nat_tests)
+
+  -- a node that steps, takes or sends is not at its entry
+  off-steps : (n : NodeState M) → only_steps n ≡ true → stands_at (entry_of holds p) n ≡ false
+  off-steps n h =
+      let a = both _ _ h in
+      let b = both _ _ a.1 in
+      let c = both _ _ b.1 in
+      unless_there (runs_in (mode_of n)) (n.cpu.iptr == entry_of holds p) (n.cpu.oreg == 0) (elsewhere n.cpu.iptr (entry_of holds p) c.0 above)
+    where
+      elsewhere : (x y : ℕ) → nat_lt x load_base ≡ true → load_base ≤ y → x == y ≡ false
+      elsewhere x y less more = grind (arith, nat_tests)
+
+  off-asleep : (n : NodeState M) → runs_in (mode_of n) ≡ false → stands_at (entry_of holds p) n ≡ false
+  off-asleep n asleep = rw asleep refl
+
+  asleep-takes : (n : NodeState M) → only_takes k n ≡ true → runs_in (mode_of n) ≡ false
+  asleep-takes n h = go n.stage refl h
+    where
+      go : (s : Stage) → n.stage ≡ s → only_takes_at s k n ≡ true → runs_in (mode_of n) ≡ false
+      go Reset e t = rw e refl
+      go Poking e t = rw e refl
+      go Peeking e t = rw e refl
+      go Booting e t = rw e refl
+      go Replying e t = rw e refl
+      go (Refused why) e t = rw e refl
+      go Over e t = let life : n.cpu.life ≡ Idle = idle_life n.cpu.life (both _ _ t).0 in rw (e, life) refl
+
+  asleep-sends : (l : ℕ) (n : NodeState M) → only_sends l n ≡ true → runs_in (mode_of n) ≡ false
+  asleep-sends l n h =
+      let a = both _ _ h in
+      let stage : n.stage ≡ Over = over n.stage a.0 in
+      let life : n.cpu.life ≡ Idle = idle_life n.cpu.life (both _ _ a.1).0 in
+      rw (stage, life) refl
+
+  off : (act : Act) (n t : NodeState M) → NodeDoes access k act n t → stands_at (entry_of holds p) n ≡ false
+  off Step n t d = off-steps n d.0
+  off (Takes byte) n t d = off-asleep n (asleep-takes n d.0)
+  off (Sends l byte) n t d = off-asleep n (asleep-sends l n d.1)
+  off (Acks l) n t d = off-asleep n (asleep-sends l n d.1)
 
   takes-only : (n : NodeState M) → only_takes k n ≡ true → OnlyTakes ops post n
   takes-only n h =
@@ -136,6 +180,7 @@ module _ {M : Type 0} (access : Access M) (holds : HoldState) (p k : ℕ) (link 
 
   -- a lone run
   pub lone-run : (Q : NodeState M → List Act → Type 0) (acts : List Act) (n end : NodeState M) → NodeLone access k Q acts n end
-      → Lone ops post Q acts n end
-  lone-run Q [] n end run = run
-  lone-run Q (act ∷ acts) n end run = (run.0, (run.1.0, (does act n run.1.0 run.1.1.0, lone-run Q acts run.1.0 end run.1.1.1)))
+      → Lone ops post (λ m left. Q m left × StandsLast (entry_of holds p) m left) acts n end
+  lone-run Q [] n end run = ((run.0, tt), run.1)
+  lone-run Q (act ∷ acts) n end run =
+      ((run.0, off act n run.1.0 run.1.1.0), (run.1.0, (does act n run.1.0 run.1.1.0, lone-run Q acts run.1.0 end run.1.1.1)))

@@ -12,9 +12,9 @@ use Rattle.tn_stream.specs.Streams.{Site, stream}
 use Rattle.tn_stream.specs.LoadBranches.{hung, site_of, branch_at, whole_branch}
 use Rattle.tn_stream.proofs.LoadBranchLaws.{linked, branch-is}
 use Rattle.tn_load.specs.LoneRuns.{takes_of, sends_of}
-use Rattle.tn_load.specs.Inner.Lives.{acts_at}
+use Rattle.tn_load.specs.Inner.Lives.{part, part_at, acts_at}
 use Rattle.tn_load.proofs.LoaderActs.{takes_of-life}
-use Rattle.tn_load.proofs.Fits.{IsFree, AreApart, IsChild, child-fits, free-sends}
+use Rattle.tn_load.proofs.Fits.{IsFree, AreApart, IsChild, part_at-child, child-fits, free-sends}
 use Rattle.tn_load.proofs.Fits.IsChild.{first, later}
 
 -- ---- one child more
@@ -202,6 +202,19 @@ module _ (images : List ImageBytes) (nodes : List LoadNode) (count : ℕ) (whole
           subst (IsChild (node_at nodes k).parent_link (branch_at images nodes k).root (branch_at images nodes k).below) (sym e) (h.child k inside is) in
       child-fits (branch_at images nodes p).root (branch_at images nodes p).below (node_at nodes k).parent_link
       (branch_at images nodes k).root (branch_at images nodes k).below at (subst AreApart (sym e) h.apart)
+
+  -- by that link a wave sends what the child gets in it
+  pub part-sent : (front back : Site → List ℕ) (k p : ℕ) → k < length nodes → p < length nodes → (node_at nodes k).parent ≡ Some p
+      → part_at front back (node_at nodes k).parent_link (branch_at images nodes p).below
+      ≡ part front back (branch_at images nodes k).root (branch_at images nodes k).below
+  part-sent front back k p inside within is =
+      let h = hangs p within in
+      let e = below-is p within in
+      let at : IsChild (node_at nodes k).parent_link (branch_at images nodes k).root (branch_at images nodes k).below
+          (branch_at images nodes p).below =
+          subst (IsChild (node_at nodes k).parent_link (branch_at images nodes k).root (branch_at images nodes k).below) (sym e) (h.child k inside is) in
+      part_at-child front back (node_at nodes k).parent_link (branch_at images nodes k).root (branch_at images nodes k).below
+      (branch_at images nodes p).below at (subst AreApart (sym e) h.apart)
 
   -- by a link where no child hangs it sends nothing
   pub sends-none : (p l : ℕ) → p < length nodes

@@ -30,7 +30,8 @@ use Rattle.tn_load.proofs.Bootstraps.{in_reset}
 use Rattle.tn_load.proofs.Primaries.{HasTimers}
 use Rattle.tn_load.proofs.Lives.{Whole, at_entry}
 use Rattle.tn_load.proofs.Lones.{WholeBeforeStart, LoneLife}
-use Rattle.tn_load.proofs.LoneNodes.{lone-run}
+use Rattle.tn_load.proofs.LoneNodes.{StandsLast, lone-run}
+use Rattle.tn_load.proofs.Along.{IsAlong, last_count, last_parts, lone-with, life-along}
 use Rattle.tn_load.proofs.Answered.{settled-life, settled-waits, settled-answered}
 use Rattle.tn_load.proofs.Courses.{moments, acts-moments, first-moments, follow}
 use Rattle.tn_load.proofs.TreeActs.{takes-sent, takes-stream}
@@ -40,11 +41,28 @@ use Rattle.tn_load.proofs.TreeRuns.{spot, branch, power, spotted, site-is, own-r
 
 module _ (network : NetworkState) (nodes : List LoadNode) (images : List ImageBytes) (powers : List PowerState) (holds : HoldState)
     (h : IsLoading network nodes images powers holds) where
-  -- what holds of each processor on its way: once it has no more to take than its part of the last wave, its image is whole
-  abbrev pub Facts : ℕ → NodeState (List ℕ) → List Act → Type 0
-  Facts p n left =
+  -- What holds of each processor on its way. Once it has no more to take than its part of the last wave, its image
+  -- is whole; it stands at its entry at the end alone; and once it takes its part of the last wave, no more than
+  -- their parts of that is left for its children.
+  abbrev Wholes : ℕ → NodeState (List ℕ) → List Act → Type 0
+  Wholes p n left =
       WholeBeforeStart (λ m. m) (branch network nodes images powers holds h p).root (branch network nodes images powers holds h p).below
       (power network nodes images powers holds h p).bytes n left
+
+  abbrev Lasts : ℕ → NodeState (List ℕ) → List Act → Type 0
+  Lasts p n left = Wholes p n left × StandsLast (entry_of holds p) n left
+
+  abbrev Alongs : ℕ → List Act → Type 0
+  Alongs p left =
+      IsAlong (last_count (branch network nodes images powers holds h p).root (branch network nodes images powers holds h p).below)
+      (last_parts (branch network nodes images powers holds h p).below) left
+
+  abbrev pub Facts : ℕ → NodeState (List ℕ) → List Act → Type 0
+  Facts p n left =
+      (WholeBeforeStart (λ m. m) (branch network nodes images powers holds h p).root (branch network nodes images powers holds h p).below
+      (power network nodes images powers holds h p).bytes n left × StandsLast (entry_of holds p) n left)
+      × IsAlong (last_count (branch network nodes images powers holds h p).root (branch network nodes images powers holds h p).below)
+      (last_parts (branch network nodes images powers holds h p).below) left
 
   abbrev place : ℕ → ℕ
   place p = spot network nodes images powers holds h p
@@ -103,8 +121,10 @@ module _ (network : NetworkState) (nodes : List LoadNode) (images : List ImageBy
   alone_run : (p : ℕ) → p < length network.sizes → (run : OwnRun p)
       → Lone memory_ops (post p) (Facts p) (acts p) (powered_node (power network nodes images powers holds h p)) (end_of p run)
   alone_run p inside run =
-      lone-run plain_access holds p (boots p) (boots-low p inside) (subst (λ e. load_base ≤ e) (sym (h.entries p inside)) (h.above p inside))
-      (Facts p) (acts p) (powered_node (power network nodes images powers holds h p)) (end_of p run) run.run
+      lone-with memory_ops (post p) (Lasts p) (Alongs p) (acts p) (powered_node (power network nodes images powers holds h p)) (end_of p run)
+      (lone-run plain_access holds p (boots p) (boots-low p inside) (subst (λ e. load_base ≤ e) (sym (h.entries p inside)) (h.above p inside))
+      (Wholes p) (acts p) (powered_node (power network nodes images powers holds h p)) (end_of p run) run.run)
+      (life-along (branch network nodes images powers holds h p).root (branch network nodes images powers holds h p).below)
 
   made : (p : ℕ) → p < length network.sizes → Course (NodeState (List ℕ))
   made p inside =

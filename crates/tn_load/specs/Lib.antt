@@ -3,5 +3,6 @@ pub mod LoneRuns
 pub mod Plans
 pub mod Shares
 pub mod UnderWay
+pub mod Keep
 pub mod Targets
 pub mod Inner
