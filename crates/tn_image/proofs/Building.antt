@@ -18,7 +18,7 @@ use Rattle.tn_image.specs.declared.images.Built.{Built}
 use Rattle.tn_image.specs.Regions.{code_extent, cells_extent, workspace_extent, AreSeparate}
 use Rattle.tn_image.specs.Checks.{checks, region_checks, linked_at, is_entry, no_entry_fault}
 use Rattle.tn_image.specs.Images.{IsInRange, AreWithinLimits, IsFirstFault, IsBuilt, segments}
-use Rattle.tn_image.specs.PlainImages.{IsPlain}
+use Rattle.tn_stream.specs.PlainImages.{IsPlain}
 use Rattle.tn_image.proofs.Laws.{entry-fault, region-fault}
 use Rattle.tn_image.proofs.Passing.{HavePassed, passed-each, separate, linked-there}
 use Rattle.tn_image.proofs.Entries.{entry-from}

@@ -10,7 +10,7 @@ use Rattle.tn_word.specs.Words.{most_neg, load_base}
 use Rattle.tn_config.specs.Configurations.{BlockState}
 use Rattle.tn_stream.specs.Images.{SegmentBytes, ImageBytes, IsSegment, IsImage}
 use Rattle.tn_image.specs.Images.{IsInRange, segment, segments, argument_bytes, has_bytes}
-use Rattle.tn_image.specs.PlainImages.{LiesIn, AreApart, AreAllApart, IsPlain}
+use Rattle.tn_stream.specs.PlainImages.{LiesIn, AreApart, AreAllApart, IsPlain}
 use Rattle.tn_image.proofs.Laws.{argument-length}
 use Rattle.tn_image.proofs.Passing.{HavePassed, code-end, cells-within, arguments-within, code-cells, code-arguments, cells-arguments}
 

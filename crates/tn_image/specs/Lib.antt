@@ -1,4 +1,3 @@
 pub mod Regions
 pub mod Checks
 pub mod Images
-pub mod PlainImages

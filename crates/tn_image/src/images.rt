@@ -13,7 +13,7 @@ ghost use Rattle.tn_image.specs.declared.regions.Extent.{Extent};
 ghost use Rattle.tn_image.specs.Regions.{AreSeparate, AreTestsOfAddresses};
 ghost use Rattle.tn_image.specs.Checks.{linked_at, is_entry};
 ghost use Rattle.tn_image.specs.Images.{IsInRange, IsBuilt, IsImageFault, OneIsRight};
-ghost use Rattle.tn_image.specs.PlainImages.{IsPlain};
+ghost use Rattle.tn_stream.specs.PlainImages.{IsPlain};
 
 use crate::checks::{no_entry, region_fault};
 use crate::segments::{NoMemory, segments};

@@ -112,3 +112,12 @@ fn the_host_keeps_what_was_written(rt: HostRuntime) -> Result<(), Fail> {
     fs::remove_file(&rt, name)?;
     Ok(())
 }
+
+#[test]
+fn the_host_refuses_what_is_no_text(rt: HostRuntime) -> Result<(), Fail> {
+    assert!(rt; HostOut::standard(&rt).write(b"").is_ok());
+    let mut error = HostOut::error(&rt);
+    assert!(rt; error.write(b"").is_ok());
+    assert!(rt; error.write(b"\xC3").is_err());
+    Ok(())
+}

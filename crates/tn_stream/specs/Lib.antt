@@ -1,4 +1,5 @@
 pub mod Images
+pub mod PlainImages
 pub mod Branches
 pub mod Streams
 pub mod Emissions

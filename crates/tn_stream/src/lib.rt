@@ -6,7 +6,6 @@ mod counts;
 mod faults;
 mod images;
 mod length_tables;
-mod streams;
 mod waves;
 
 pub use collects::{collect, collect_with};
@@ -14,4 +13,3 @@ pub use counts::{length, received, steps};
 pub use faults::StreamFault;
 pub use images::{Image, Segment};
 pub use length_tables::{LengthTable, NodeLengths, lengths};
-pub use streams::collect_one;

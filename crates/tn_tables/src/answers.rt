@@ -6,6 +6,14 @@ pub fn said(alloc: Global, text: &str) -> Result<Vec<u8>, Stop> {
     Ok(Vec::from_slice(alloc, text.as_bytes())?)
 }
 
+/// What a file holds as an answer.
+pub fn held(alloc: Global, file: Option<&[u8]>) -> Result<Vec<u8>, Stop> {
+    match file {
+        Some(bytes) => Ok(Vec::from_slice(alloc, bytes)?),
+        None => said(alloc, "no file"),
+    }
+}
+
 /// Bytes in hexadecimal as an answer, a blank between two.
 pub fn spelled(alloc: Global, bytes: &[u8]) -> Result<Vec<u8>, Stop> {
     let mut text = String::new(alloc);

@@ -17,11 +17,13 @@ mod answers;
 mod bytes;
 mod cases;
 mod numbers;
+mod programs;
 mod reports;
 mod stops;
 
-pub use answers::{said, spelled};
+pub use answers::{held, said, spelled};
 pub use cases::{Case, Line, cases_of};
-pub use numbers::{byte, decimal, number, words_of};
+pub use numbers::{byte, decimal, decimals, number, words_of};
+pub use programs::{Tables, run_tables};
 pub use reports::Report;
 pub use stops::Stop;

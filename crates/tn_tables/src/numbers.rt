@@ -38,3 +38,12 @@ pub fn words_of<'a>(alloc: Global, text: &'a str) -> Result<Vec<&'a str>, Stop> 
     }
     Ok(words)
 }
+
+/// Numbers in decimal.
+pub fn decimals(alloc: Global, words: &[&str]) -> Result<Vec<u64>, Stop> {
+    let mut numbers = Vec::new(alloc);
+    for word in words {
+        numbers.push(decimal(word)?)?;
+    }
+    Ok(numbers)
+}

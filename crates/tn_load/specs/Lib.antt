@@ -1,0 +1,5 @@
+pub mod Acts
+pub mod LoneRuns
+pub mod Plans
+pub mod Shares
+pub mod UnderWay

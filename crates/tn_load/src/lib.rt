@@ -1,0 +1,2 @@
+//! Loading of networks of T425s: what each processor does alone, and that no order of steps matters.
+#![tactic(auto)]
