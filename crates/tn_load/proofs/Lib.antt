@@ -5,3 +5,5 @@ pub mod Totals
 pub mod OnePick
 pub mod Stepping
 pub mod Sending
+pub mod Taking
+pub mod Hosting
