@@ -124,6 +124,7 @@ module _ {N : Type 0} (ops : NodeOps N) (network : NetworkState) (holds : HoldSt
       bytes = λ e place. (all e place).bytes;
       full = λ e place. (all e place).full;
       wired = u.wired;
+      quiet = u.quiet;
       sends = ap other_bytes u.sends;
       waits = refl;
       keeps = u.keeps;
@@ -161,6 +162,9 @@ module _ {N : Type 0} (ops : NodeOps N) (network : NetworkState) (holds : HoldSt
 
     abbrev take_t : BoardState N
     take_t = step ops network HostTake s
+
+    root_wired : other_end network (Link network.root network.root_link) ≢ Nothing
+    root_wired none = let bad : Host ≡ Nothing = sym u.pairing.hosted ∙ none in cc
 
     take_comes : (e : Far) → e ≢ Host → incoming take_new e ≡ incoming plan e
     take_comes Nothing apart = refl
@@ -209,6 +213,7 @@ module _ {N : Type 0} (ops : NodeOps N) (network : NetworkState) (holds : HoldSt
       bytes = λ e place. (all_taken e place).bytes;
       full = λ e place. (all_taken e place).full;
       wired = λ q m end none. take_goes (Link q m) ∙ u.wired q m end none;
+      quiet = λ q m end none. take_waits (Link q m) (λ e. root_wired (ap (other_end network) (sym e) ∙ none)) ∙ u.quiet q m end none;
       sends = u.sends;
       waits = u.waits;
       keeps = ap (λ o. kept_with o s.host.kept ++ other_bytes plan.keeps) k.held

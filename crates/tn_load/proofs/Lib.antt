@@ -7,3 +7,4 @@ pub mod Stepping
 pub mod Sending
 pub mod Taking
 pub mod Hosting
+pub mod Keeping

@@ -139,6 +139,8 @@ module _ {N : Type 0} (ops : NodeOps N) (network : NetworkState) (holds : HoldSt
       full = λ e place. (fits-sent network u.pairing missing plan new s t (fits ops network holds Q missing kept plan s u) (Link p l) h.byte sent e place).full;
       wired = λ q m end none. send-else ops holds Q p plan.courses l h.byte h.goes q m (λ e. wire (ap (other_end network) (sym e) ∙ none))
           ∙ u.wired q m end none;
+      quiet = λ q m end none. send-waits_else ops holds Q p plan.courses l h.byte h.goes q m (λ e. wire (ap (other_end network) (sym e) ∙ none))
+          ∙ u.quiet q m end none;
       sends = left (far_at network p l) ∙ u.sends;
       waits = waits (far_at network p l) ∙ u.waits;
       keeps = ap (λ bs. bs ++ plan.keeps) (keeps (far_at network p l)) ∙ u.keeps;

@@ -73,6 +73,7 @@ module _ {N : Type 0} (ops : NodeOps N) (network : NetworkState) (holds : HoldSt
       bytes = λ e place. (all e place).bytes;
       full = λ e place. (all e place).full;
       wired = λ q l end none. step-sends ops holds Q p plan.courses g q l ∙ u.wired q l end none;
+      quiet = λ q l end none. step-waits ops holds Q p plan.courses g q l ∙ u.quiet q l end none;
       sends = u.sends;
       waits = u.waits;
       keeps = u.keeps;

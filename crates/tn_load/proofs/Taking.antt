@@ -181,6 +181,7 @@ module _ {N : Type 0} (ops : NodeOps N) (network : NetworkState) (holds : HoldSt
         bytes = λ e place. (host_fits e place).bytes;
         full = λ e place. (host_fits e place).full;
         wired = λ q m end none. once_goes (Link q m) ∙ u.wired q m end none;
+        quiet = λ q m end none. once_waits (Link q m) ∙ u.quiet q m end none;
         sends = u.sends;
         waits = refl;
         keeps = u.keeps;
@@ -201,6 +202,9 @@ module _ {N : Type 0} (ops : NodeOps N) (network : NetworkState) (holds : HoldSt
 
       g : Goes ops holds Q q (once.courses q) (Acks m)
       g = goes-acknowledge ops holds Q q (once.courses q) (courses_are q sender_end.processor) m sender_waits
+
+      wire : other_end network (Link q m) ≢ Nothing
+      wire none = let back : Link p l ≡ Nothing = sym (u.pairing.ways p l q m place_of is) ∙ none in cc
 
       other_waits_else : (e : Far) → e ≢ far_at network p l → waiting from_other e ≡ waiting plan e
       other_waits_else Nothing apart = refl
@@ -246,6 +250,7 @@ module _ {N : Type 0} (ops : NodeOps N) (network : NetworkState) (holds : HoldSt
         bytes = λ e place. (other_fits e place).bytes;
         full = λ e place. (other_fits e place).full;
         wired = λ k j end none. other_goes (Link k j) ∙ once_goes (Link k j) ∙ u.wired k j end none;
+        quiet = λ k j end none. other_waits_else (Link k j) (λ e. wire (ap (other_end network) (sym (e ∙ is)) ∙ none)) ∙ u.quiet k j end none;
         sends = u.sends;
         waits = u.waits;
         keeps = u.keeps;

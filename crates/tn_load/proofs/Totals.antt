@@ -32,14 +32,14 @@ sum-greater (suc n) p k f g within here others = elim (cases_eq p n) [
 ]
 
 -- what a pick takes off the sum
-pub act_weight : Act → ℕ
+abbrev pub act_weight : Act → ℕ
 act_weight Step = 1
 act_weight (Takes b) = 1
 act_weight (Sends l b) = 1
 act_weight (Acks l) = 0
 
 weight-first : (act : Act) (acts : List Act) → weight (act ∷ acts) ≡ act_weight act + weight acts
-unfolding weight act_weight
+unfolding weight
 weight-first Step acts = refl
 weight-first (Takes b) acts = refl
 weight-first (Sends l b) acts = refl

@@ -3,3 +3,4 @@ pub mod LoneRuns
 pub mod Plans
 pub mod Shares
 pub mod UnderWay
+pub mod Keep

@@ -85,6 +85,11 @@ plan_after network (Proc p slice clock) plan = record plan { courses = advanced 
 plan_after network (Send p l) plan = record plan { courses = advanced p plan.courses }
 plan_after network (Take p l) plan = advanced_at (far_at network p l) (record plan { courses = advanced p plan.courses })
 
+-- the plan after picks
+abbrev pub plan_behind : {N : Type 0} → NetworkState → List Pick → Plan N → Plan N
+plan_behind network [] plan = plan
+plan_behind network (pick ∷ picks) plan = plan_behind network picks (plan_after network pick plan)
+
 -- ---- how many picks are left
 
 unfoldable pub sum_below : ℕ → (ℕ → ℕ) → ℕ

@@ -1,5 +1,5 @@
 -- A network under way: its state is that of a plan.
-use Rattle.std.specs.Prelude.{◌≡◌, ℕ, ◌+◌, ◌*◌, ◌<◌, ◌≤◌, List, [], ◌++◌, length, Some, is_some, slice_get}
+use Rattle.std.specs.Prelude.{◌≡◌, ℕ, ◌+◌, ◌*◌, ◌<◌, ◌≤◌, false, List, [], ◌++◌, length, Some, is_some, slice_get}
 use Rattle.tn_net.specs.declared.networks.Far.{Far}
 use Rattle.tn_net.specs.declared.networks.Far.TheVariants.{Nothing, Host, Link}
 use Rattle.tn_net.specs.Networks.{NetworkState, IsEnd, IsPairing, far_at}
@@ -26,6 +26,7 @@ pub record IsUnderWay {N : Type 0} (ops : NodeOps N) (network : NetworkState) (h
       → incoming plan e ≡ bytes_in (latch_of s e) ++ (outgoing plan (other_end network e) ++ missing e)
   pub full : (e : Far) → IsWireEnd network e → is_some (latch_of s e) ≡ waiting plan (other_end network e)
   pub wired : (p l : ℕ) → IsEnd network p l → far_at network p l ≡ Nothing → outgoing plan (Link p l) ≡ []
+  pub quiet : (p l : ℕ) → IsEnd network p l → far_at network p l ≡ Nothing → waiting plan (Link p l) ≡ false
   pub sends : s.host.left ≡ plan.sends
   pub waits : s.host.sent ≡ plan.waits
   pub keeps : s.host.kept ++ plan.keeps ≡ kept
