@@ -8,3 +8,6 @@ pub mod Sending
 pub mod Taking
 pub mod Hosting
 pub mod Keeping
+pub mod Enabling
+pub mod Resting
+pub mod Ending

@@ -62,16 +62,16 @@ GoesOn {N = N} ops =
 
 -- ---- the end
 
--- the ends of the courses of so many processors
-unfoldable pub ends_of : {N : Type 0} → ℕ → (ℕ → Course N) → List N
-ends_of zero courses = []
-ends_of (suc n) courses = ends_of n courses ++ (courses n).end ∷ []
+-- the ends of the courses of so many processors from p on
+unfoldable pub ends_from : {N : Type 0} → ℕ → ℕ → (ℕ → Course N) → List N
+ends_from p zero courses = []
+ends_from p (suc count) courses = (courses p).end ∷ ends_from (p + 1) count courses
 
 -- every processor at the end of its course, all latches empty, and the host with nothing left to do
 abbrev pub ended_board : {N : Type 0} → ℕ → List ℕ → Plan N → BoardState N
 ended_board count kept plan =
     record {
-      nodes = ends_of count plan.courses;
+      nodes = ends_from 0 count plan.courses;
       latches = replicate (4 * count) None;
       host = record { left = []; sent = false; latch = None; kept = kept };
     }
