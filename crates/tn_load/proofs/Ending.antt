@@ -7,6 +7,7 @@ use Rattle.tn_net.specs.declared.networks.Far.{Far}
 use Rattle.tn_net.specs.declared.networks.Far.TheVariants.{Nothing, Host, Link}
 use Rattle.tn_net.specs.Networks.{NetworkState, IsEnd, far_at}
 use Rattle.tn_network.specs.declared.picks.Pick.{Pick}
+use Rattle.tn_network.specs.Hosts.{HostState}
 use Rattle.tn_network.specs.Boards.{BoardState, latch_at}
 use Rattle.tn_network.specs.NodeOps.{NodeOps}
 use Rattle.tn_network.specs.Holds.{HoldState, enabled}
@@ -19,7 +20,7 @@ use Rattle.tn_load.specs.Shares.{IsWireEnd, other_end, taken_by, incoming, outgo
 use Rattle.tn_load.specs.UnderWay.{IsUnderWay}
 use Rattle.tn_load.specs.Keep.{IsRooted, IsWhole, ends_from, ended_board}
 use Rattle.tn_load.proofs.Latches.{empty-latch}
-use Rattle.tn_load.proofs.Totals.{sum-same}
+use Rattle.tn_load.proofs.Totals.{boot-after, end-after}
 use Rattle.tn_load.proofs.Keeping.{one-off, along}
 use Rattle.tn_load.proofs.Resting.{left_or_not, left-goes_on}
 
@@ -69,6 +70,19 @@ now-end {N = N} c is = go c.moments is
     go [] e = refl
     go (m ∷ ms) e = cc
 
+-- ---- equal boards
+
+pub same_host : (h k : HostState) → h.left ≡ k.left → h.sent ≡ k.sent → h.latch ≡ k.latch → h.kept ≡ k.kept → h ≡ k
+same_host h k left sent latch kept =
+    ap (λ x. record h { left = x }) left ∙ ap (λ x. record h { left = k.left; sent = x }) sent
+    ∙ ap (λ x. record h { left = k.left; sent = k.sent; latch = x }) latch
+    ∙ ap (λ x. record h { left = k.left; sent = k.sent; latch = k.latch; kept = x }) kept
+
+pub same_board : {N : Type 0} (s t : BoardState N) → s.nodes ≡ t.nodes → s.latches ≡ t.latches → s.host ≡ t.host → s ≡ t
+same_board s t nodes latches host =
+    ap (λ x. record s { nodes = x }) nodes ∙ ap (λ x. record s { nodes = t.nodes; latches = x }) latches
+    ∙ ap (λ x. record s { nodes = t.nodes; latches = t.latches; host = x }) host
+
 -- ---- some processor has acts left, or none has
 search-left : {N : Type 0} (courses : ℕ → Course N) (n : ℕ)
     → ((p : ℕ) × (p < n) × (acts_left (courses p) ≡ [] → ⊥)) ⊎ ((p : ℕ) → p < n → acts_left (courses p) ≡ [])
@@ -98,7 +112,7 @@ module _ {N : Type 0} (ops : NodeOps N) (network : NetworkState) (holds : HoldSt
   unfolding takes_of
   taken-nothing c l none = ap (λ a. if l == c.boot then takes_of a else []) none ∙ go (l == c.boot)
     where
-      go : (test : Bool) → (if test then [] else []) ≡ []
+      go : (test : Bool) → (let xs : List ℕ = if test then [] else [] in xs) ≡ []
       go true = refl
       go false = refl
 
@@ -166,14 +180,107 @@ module _ {N : Type 0} (ops : NodeOps N) (network : NetworkState) (holds : HoldSt
     | inr each ↦ each
   ]
 
+  no_latch : (o : Option ℕ) (bytes : List ℕ) → [] ≡ bytes_in o ++ bytes → o ≡ None
+  no_latch None bytes e = refl
+  no_latch (Some b) bytes e = cc
+
+  nothing_comes : Empty → (e : Far) → IsWireEnd network e → incoming plan e ≡ []
+  nothing_comes none Nothing place = refl
+  nothing_comes none Host place = keeps-nothing none
+  nothing_comes none (Link p l) place = taken-nothing (plan.courses p) l (none p place.processor)
+
   empty_latch : Empty → (e : Far) → IsWireEnd network e → latch_of s e ≡ None
-  empty_latch none e place = empty-latch (latch_of s e) (u.full e place ∙ free (other_end network e) refl)
-    where
-      free : (d : Far) → other_end network e ≡ d → waiting plan (other_end network e) ≡ false
-      free Nothing is = ap (waiting plan) is
-      free Host is =
-          let at_host : latch_of s e ≡ None ⊎ (waiting plan Host ≡ true → ⊥) = ? in ?
-      free (Link q m) is = ?
+  empty_latch none e place =
+      no_latch (latch_of s e) (outgoing plan (other_end network e) ++ missing e) (sym (nothing_comes none e place) ∙ u.bytes e place)
+
+  no_waits : Empty → plan.waits ≡ false
+  no_waits none =
+      let root = u.pairing.root in
+      ap (waiting plan) (sym u.pairing.hosted) ∙ sym (u.full (Link network.root network.root_link) root)
+      ∙ ap (λ o. is_some o) (empty_latch none (Link network.root network.root_link) root)
+
+  latches-none : Empty → s.latches ≡ replicate (4 * count) None
+  latches-none none =
+      all_none s.latches (λ j h.
+      let place : IsEnd network (j / 4) (j % 4) = record { processor = omega (arith, h, u.latches); link = omega arith } in
+      let at : 4 * (j / 4) + j % 4 ≡ j = omega arith in
+      subst (λ k. slice_index_or s.latches k None ≡ None) at (empty_latch none (Link (j / 4) (j % 4)) place))
+      ∙ ap (λ n. replicate n None) u.latches
+
+  nodes-ended : Empty → s.nodes ≡ ends_from 0 count plan.courses
+  nodes-ended none =
+      ends-are plan.courses s.nodes 0 count u.count
+      (λ k h. u.nodes k h ∙ ap Some (now-end (plan.courses k) (none k h)) ∙ ap (λ j. Some (plan.courses j).end) (let e : k ≡ 0 + k = omega arith in e))
 
   pub ended : picks_left count plan ≡ 0 → s ≡ ended_board count kept plan
-  ended none = ?
+  ended zero_left =
+      let none : Empty = empty zero_left in
+      same_board s (ended_board count kept plan) (nodes-ended none) (latches-none none)
+      (same_host s.host (ended_board count kept plan).host (u.sends ∙ sends-nothing none) (u.waits ∙ no_waits none) (empty_latch none Host tt)
+      (sym (append-nil s.host.kept) ∙ ap (λ bs. s.host.kept ++ bs) (sym (keeps-nothing none)) ∙ u.keeps))
+
+-- ---- picks in any order
+
+-- the same rank, and no bytes missing, behind any picks
+rooted-after : {N : Type 0} (network : NetworkState) (pick : Pick) (plan : Plan N) → IsRooted network plan → IsRooted network (plan_after network pick plan)
+rooted-after network pick plan rooted = record {
+  rank = rooted.rank;
+  most = rooted.most;
+  bounded = rooted.bounded;
+  falls = λ p q m inside is. rooted.falls p q m inside (ap (λ k. far_at network p k) (sym (boot-after network pick plan p)) ∙ is);
+}
+
+module _ {N : Type 0} (network : NetworkState) where
+  rooted-behind : (picks : List Pick) (plan : Plan N) → IsRooted network plan → IsRooted network (plan_behind network picks plan)
+  rooted-behind [] plan rooted = rooted
+  rooted-behind (pick ∷ picks) plan rooted = rooted-behind picks (plan_after network pick plan) (rooted-after network pick plan rooted)
+
+  end-behind : (picks : List Pick) (plan : Plan N) (q : ℕ) → ((plan_behind network picks plan).courses q).end ≡ (plan.courses q).end
+  end-behind [] plan q = refl
+  end-behind (pick ∷ picks) plan q = end-behind picks (plan_after network pick plan) q ∙ end-after network pick plan q
+
+ends-same : {N : Type 0} (p count : ℕ) (one two : ℕ → Course N) → ((q : ℕ) → (one q).end ≡ (two q).end)
+    → ends_from p count one ≡ ends_from p count two
+unfolding ends_from
+ends-same p zero one two same = refl
+ends-same p (suc count) one two same =
+    ap (λ x. x ∷ ends_from (p + 1) count one) (same p) ∙ ap (λ xs. (two p).end ∷ xs) (ends-same (p + 1) count one two same)
+
+module _ {N : Type 0} (ops : NodeOps N) (network : NetworkState) (holds : HoldState) (Q : ℕ → N → List Act → Type 0)
+    (missing : Far → List ℕ) (kept : List ℕ) (plan : Plan N) (s : BoardState N) (picks : List Pick)
+    (u : IsUnderWay ops network holds Q missing kept plan s) (rooted : IsRooted network plan) (whole : IsWhole network missing)
+    (on : AreEnabled ops network holds s picks) where
+  abbrev all : ℕ
+  all = picks_left (length network.sizes) plan
+
+  abbrev rest : Plan N
+  rest = plan_behind network picks plan
+
+  gone : IsUnderWay ops network holds Q missing kept rest (after ops network s picks)
+      × (all ≡ length picks + picks_left (length network.sizes) rest)
+  gone = along ops network holds Q missing kept plan s picks u on
+
+  pub at_most : length picks ≤ all
+  at_most = let is = gone.1 in omega (arith, is)
+
+  none_left : length picks ≡ all → picks_left (length network.sizes) rest ≡ 0
+  none_left full = let is = gone.1 in omega (arith, is, full)
+
+  pub one_end : length picks ≡ all → after ops network s picks ≡ ended_board (length network.sizes) kept plan
+  one_end full =
+      ended ops network holds Q missing kept rest (after ops network s picks) gone.0 (rooted-behind network picks plan rooted) whole (none_left full)
+      ∙ ap (λ nodes. record (ended_board (length network.sizes) kept plan) { nodes = nodes })
+      (ends-same 0 (length network.sizes) rest.courses plan.courses (end-behind network picks plan))
+
+  pub rests : AtRest ops network holds (after ops network s picks) ↔ (length picks ≡ all)
+  rests =
+      (λ still. by_number (picks_left (length network.sizes) rest) refl still,
+      λ full. at-rest ops network holds Q missing kept rest (after ops network s picks) gone.0 (rooted-behind network picks plan rooted) whole (none_left full))
+    where
+      by_number : (n : ℕ) → picks_left (length network.sizes) rest ≡ n → AtRest ops network holds (after ops network s picks) → length picks ≡ all
+      by_number zero none still = let is = gone.1 in omega (arith, is, none)
+      by_number (suc n) more still =
+          let some = goes_on ops network holds Q missing kept rest (after ops network s picks) gone.0 (rooted-behind network picks plan rooted) whole
+          (λ none. omega (arith, more, none)) in
+          let off : enabled ops network holds (after ops network s picks) some.0 ≡ false = still some.0 in
+          absurd (let bad : true ≡ false = sym some.1 ∙ off in cc)

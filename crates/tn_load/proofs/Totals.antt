@@ -1,11 +1,16 @@
--- How many picks are left once a processor's first act is done.
+-- What a pick leaves as it was, and how many picks are left once a processor's first act is done.
 use Rattle.std.proofs.Common.{◌≡◌, ◌≢◌, ℕ, zero, suc, ◌+◌, ◌<◌, ◌≤◌, ◌⊎◌, inl, inr, List, [], ◌∷◌, refl, sym, ap, ◌∙◌, arith}
 use Rattle.std.proofs.lemmas.Bool.{cases_eq}
 use Rattle.tn_load.specs.Acts.{Act}
 use Rattle.tn_load.specs.Acts.Act.{Step, Takes, Sends, Acks}
 use Rattle.tn_load.specs.LoneRuns.{weight}
-use Rattle.tn_load.specs.Plans.{Course, acts_left, behind, advanced, sum_below}
-use Rattle.tn_load.proofs.Going.{advanced-here, advanced-other}
+use Rattle.tn_net.specs.declared.networks.Far.{Far}
+use Rattle.tn_net.specs.declared.networks.Far.TheVariants.{Nothing, Host, Link}
+use Rattle.tn_net.specs.Networks.{NetworkState, far_at}
+use Rattle.tn_network.specs.declared.picks.Pick.{Pick}
+use Rattle.tn_network.specs.declared.picks.Pick.TheVariants.{HostSend, HostTake, Proc, Send, Take}
+use Rattle.tn_load.specs.Plans.{Course, Plan, acts_left, behind, advanced, advanced_at, plan_after, sum_below}
+use Rattle.tn_load.proofs.Going.{advanced-here, advanced-other, each-advanced}
 
 pub sum-same : (n : ℕ) (f g : ℕ → ℕ) → ((q : ℕ) → q < n → f q ≡ g q) → sum_below n f ≡ sum_below n g
 unfolding sum_below
@@ -53,3 +58,40 @@ sum-advanced n p courses act within is =
     (ap (λ a. weight a) is ∙ weight-first act (acts_left (behind (courses p)))
     ∙ ap (λ x. act_weight act + weight (acts_left x)) (sym (advanced-here p courses)))
     (λ q apart. ap (λ x. weight (acts_left x)) (sym (advanced-other p courses q apart)))
+
+-- ---- no pick changes a boot link
+
+pub boot-advanced : {N : Type 0} (p : ℕ) (courses : ℕ → Course N) (q : ℕ) → (advanced p courses q).boot ≡ (courses q).boot
+boot-advanced p courses q = each-advanced p courses (λ k c. c.boot ≡ (courses k).boot) refl (λ k apart. refl) q
+
+boot-at : {N : Type 0} (far : Far) (plan : Plan N) (q : ℕ) → ((advanced_at far plan).courses q).boot ≡ (plan.courses q).boot
+boot-at Nothing plan q = refl
+boot-at Host plan q = refl
+boot-at (Link p l) plan q = boot-advanced p plan.courses q
+
+pub boot-after : {N : Type 0} (network : NetworkState) (pick : Pick) (plan : Plan N) (q : ℕ)
+    → ((plan_after network pick plan).courses q).boot ≡ (plan.courses q).boot
+boot-after network HostSend plan q = refl
+boot-after network HostTake plan q = boot-advanced network.root plan.courses q
+boot-after network (Proc p slice clock) plan q = boot-advanced p plan.courses q
+boot-after network (Send p l) plan q = boot-advanced p plan.courses q
+boot-after network (Take p l) plan q =
+    boot-at (far_at network p l) (record plan { courses = advanced p plan.courses }) q ∙ boot-advanced p plan.courses q
+
+-- nor the end of a course
+pub end-advanced : {N : Type 0} (p : ℕ) (courses : ℕ → Course N) (q : ℕ) → (advanced p courses q).end ≡ (courses q).end
+end-advanced p courses q = each-advanced p courses (λ k c. c.end ≡ (courses k).end) refl (λ k apart. refl) q
+
+end-at : {N : Type 0} (far : Far) (plan : Plan N) (q : ℕ) → ((advanced_at far plan).courses q).end ≡ (plan.courses q).end
+end-at Nothing plan q = refl
+end-at Host plan q = refl
+end-at (Link p l) plan q = end-advanced p plan.courses q
+
+pub end-after : {N : Type 0} (network : NetworkState) (pick : Pick) (plan : Plan N) (q : ℕ)
+    → ((plan_after network pick plan).courses q).end ≡ (plan.courses q).end
+end-after network HostSend plan q = refl
+end-after network HostTake plan q = end-advanced network.root plan.courses q
+end-after network (Proc p slice clock) plan q = end-advanced p plan.courses q
+end-after network (Send p l) plan q = end-advanced p plan.courses q
+end-after network (Take p l) plan q =
+    end-at (far_at network p l) (record plan { courses = advanced p plan.courses }) q ∙ end-advanced p plan.courses q
