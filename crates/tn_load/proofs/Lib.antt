@@ -1,3 +1,16 @@
+pub mod Going
+pub mod Latches
+pub mod Heads
+pub mod Totals
+pub mod OnePick
+pub mod Stepping
+pub mod Sending
+pub mod Taking
+pub mod Hosting
+pub mod Keeping
+pub mod Enabling
+pub mod Resting
+pub mod Ending
 pub mod AccessTests
 pub mod Leading
 pub mod Walking

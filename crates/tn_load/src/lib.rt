@@ -1,2 +1,2 @@
-//! How a stream loads a network of processors, whatever the order of their steps.
+//! Loading of networks of T425s: what each processor does alone, and that no order of steps matters.
 #![tactic(auto)]
