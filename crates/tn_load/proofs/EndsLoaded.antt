@@ -34,12 +34,19 @@ stands-all (s ∷ rest) m lies stand =
 same : (x : ℕ) → (x == x) ≡ true
 same x = grind (arith, nat_tests)
 
+-- the segments of a whole image stand in memory
+pub whole-pieces : (image : ImageBytes) (first after : List ℕ) → LieIn (length first) image.segments → AreApart image.segments
+    → Whole image first after → All (StandsIn after) (placed_all image.segments)
+whole-pieces image first after lies apart whole =
+    let size : length after ≡ length first = whole.size ∙ length-with_segments image.segments first (length first) refl lies in
+    let stand : Stand image.segments after = whole-stands image first after lies apart whole in
+    All-from_recursion (StandsIn after) (placed_all image.segments)
+    (stands-all image.segments after (subst (λ n. LieIn n image.segments) (sym size) lies) stand)
+
 -- a processor at its entry whose image is whole is loaded
 pub loaded-node : (image : ImageBytes) (first after : List ℕ) → LieIn (length first) image.segments → AreApart image.segments → HasTimers after
     → Whole image first after → IsLoadedNode (λ m. m) (at_entry (λ m. m) image after) (target_of image)
 loaded-node image first after lies apart timers whole =
-    let size : length after ≡ length first = whole.size ∙ length-with_segments image.segments first (length first) refl lies in
-    let stand : Stand image.segments after = whole-stands image first after lies apart whole in
     let entry : image.entry == image.entry ≡ true = same image.entry in
     record {
       stands = rw entry refl;
@@ -53,8 +60,7 @@ loaded-node image first after lies apart timers whole =
       quiet = ((refl, refl, refl, refl), (refl, refl, refl, refl));
       high_timer = timers.high;
       low_timer = timers.low;
-      whole = All-from_recursion (StandsIn after) (placed_all image.segments)
-          (stands-all image.segments after (subst (λ n. LieIn n image.segments) (sym size) lies) stand);
+      whole = whole-pieces image first after lies apart whole;
     }
 
 -- each of the nodes, by its place

@@ -24,7 +24,8 @@ use Rattle.tn_load.specs.Shares.{IsWireEnd, other_end, taken_by, incoming, outgo
 use Rattle.tn_load.specs.UnderWay.{IsUnderWay}
 use Rattle.tn_load.specs.Keep.{UnderWay, IsRooted}
 use Rattle.tn_load.specs.Inner.Lives.{acts_at}
-use Rattle.tn_load.specs.Inner.Loadings.{no_power, power_at, place_of, IsLoading}
+use Rattle.tn_load.specs.Boots.{no_power, power_at}
+use Rattle.tn_load.specs.Inner.Loadings.{place_of, IsLoading}
 use Rattle.tn_load.proofs.Answered.{settled-life, settled-waits}
 use Rattle.tn_load.proofs.Counting.{total, total-same, sums-once}
 use Rattle.tn_load.proofs.TreeCounts.{all-picks}

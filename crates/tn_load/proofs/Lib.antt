@@ -44,3 +44,4 @@ pub mod PlainFits
 pub mod EndsLoaded
 pub mod Onward
 pub mod WholeBefore
+pub mod Booting

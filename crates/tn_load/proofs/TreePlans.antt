@@ -24,7 +24,8 @@ use Rattle.tn_load.specs.Plans.{Moment, Course, Plan, IsCourse, acts_left, now}
 use Rattle.tn_load.specs.Shares.{IsWireEnd, other_end, taken_by, incoming, outgoing, waiting, latch_of, bytes_in}
 use Rattle.tn_load.specs.UnderWay.{IsUnderWay}
 use Rattle.tn_load.specs.Inner.Lives.{acts_at}
-use Rattle.tn_load.specs.Inner.Loadings.{image_at, no_power, place_of, IsLoading}
+use Rattle.tn_load.specs.Boots.{image_at, no_power}
+use Rattle.tn_load.specs.Inner.Loadings.{place_of, IsLoading}
 use Rattle.tn_load.proofs.Plains.{plain_is_plain}
 use Rattle.tn_load.proofs.Bootstraps.{in_reset}
 use Rattle.tn_load.proofs.Primaries.{HasTimers}

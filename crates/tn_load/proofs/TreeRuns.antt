@@ -21,7 +21,8 @@ use Rattle.tn_stream.proofs.LengthLaws.{part-bound}
 use Rattle.tn_network.specs.Holds.{HoldState}
 use Rattle.tn_network.specs.Resets.{PowerState}
 use Rattle.tn_load.specs.Inner.Lives.{AreLinked, Fits}
-use Rattle.tn_load.specs.Inner.Loadings.{image_at, no_power, power_at, place_of, IsLoading}
+use Rattle.tn_load.specs.Boots.{image_at, no_power, power_at}
+use Rattle.tn_load.specs.Inner.Loadings.{place_of, IsLoading}
 use Rattle.tn_load.proofs.Plains.{plain_is_plain}
 use Rattle.tn_load.proofs.TreePlaces.{IsPlaceOf, placed}
 use Rattle.tn_load.proofs.Lones.{LoneLife, lone}

@@ -24,7 +24,8 @@ use Rattle.tn_load.specs.Plans.{Moment, Course, Plan, Follow, IsCourse, now, act
 use Rattle.tn_load.specs.Shares.{taken_by, latch_of, bytes_in, outgoing, waiting, incoming}
 use Rattle.tn_load.specs.Keep.{UnderWay}
 use Rattle.tn_load.specs.Inner.NodeActs.{Holds}
-use Rattle.tn_load.specs.Inner.Loadings.{image_at, place_of, IsLoading}
+use Rattle.tn_load.specs.Boots.{image_at}
+use Rattle.tn_load.specs.Inner.Loadings.{place_of, IsLoading}
 use Rattle.tn_load.proofs.Lives.{Whole, start-some}
 use Rattle.tn_load.proofs.Along.{IsAlong, waits, last_count, last_parts}
 use Rattle.tn_load.proofs.LoneNodes.{StandsLast}

@@ -5,4 +5,5 @@ pub mod Shares
 pub mod UnderWay
 pub mod Keep
 pub mod Targets
+pub mod Boots
 pub mod Inner

@@ -1,25 +1,14 @@
 -- What is loaded into a network: a load tree of it, and for each processor an image that its memory can hold.
-use Rattle.std.specs.Prelude.{◌≡◌, ℕ, zero, suc, ◌<◌, ◌≤◌, ◌==◌, List, [], ◌∷◌, length, slice_index, slice_index_or, true, if◌then◌else◌, false}
+use Rattle.std.specs.Prelude.{◌≡◌, ℕ, zero, suc, ◌<◌, ◌≤◌, ◌==◌, List, [], ◌∷◌, length, slice_index, true, if◌then◌else◌}
 use Rattle.tn_word.specs.Words.{load_base}
 use Rattle.tn_net.specs.Networks.{NetworkState, IsPairing}
 use Rattle.tn_net.specs.Trees.{LoadNode, IsLoadTree}
 use Rattle.tn_net.specs.WholeTrees.{IsWholeTree}
 use Rattle.tn_stream.specs.Images.{ImageBytes, AreImages}
-use Rattle.tn_stream.specs.LoadBranches.{no_image}
 use Rattle.tn_network.specs.Holds.{HoldState, entry_of}
 use Rattle.tn_network.specs.Resets.{PowerState, AreSized}
+use Rattle.tn_load.specs.Boots.{image_at}
 use Rattle.tn_load.specs.Inner.Lives.{Fits}
-
--- the image of a processor
-abbrev pub image_at : List ImageBytes → ℕ → ImageBytes
-image_at images p = slice_index_or images p no_image
-
--- what a processor's power-up is, where there is one
-abbrev pub no_power : PowerState
-no_power = record { bytes = []; error = false; halt = false }
-
-abbrev pub power_at : List PowerState → ℕ → PowerState
-power_at powers p = slice_index_or powers p no_power
 
 -- the place of a processor among the nodes
 unfoldable pub place_of : List LoadNode → ℕ → ℕ
