@@ -172,9 +172,14 @@ last-begins site (child l here below others) =
     let command : List ℕ = forward_command (out_channel_of l) (length bytes) in
     let middle : List Act = steps 7 ++ forward_loop ((length bytes - 1) / 128) l bytes in
     let rest : List Act = forwards_acts nothing run_of others ++ run_acts site.image in
-    let e = first-taken command (middle ++ rest) (omega arith) in
-    (e.0, (e.1.0, append_assoc (takes command ++ middle) (forwards_acts nothing run_of others) (run_acts site.image)
-    ∙ (append_assoc (takes command) middle rest ∙ e.1.1)))
+    let e = first-taken command (middle ++ rest) (omega arith) in (
+      e.0,
+      (
+        e.1.0,
+        append_assoc (takes command ++ middle) (forwards_acts nothing run_of others) (run_acts site.image)
+            ∙ (append_assoc (takes command) middle rest ∙ e.1.1),
+      ),
+    )
 
 last-later : (site : Site) (below : Children Site) → AllLater (IsAlong (last_count site below) (last_parts below)) (last_acts site below)
 unfolding takes_of sends_of

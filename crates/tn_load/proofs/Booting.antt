@@ -187,7 +187,7 @@ module _ (network : NetworkState) (nodes : List LoadNode) (images : List ImageBy
         let p_now : one.0 ≡ now ((plan_behind network picks plan).courses p) = some_same one.0 (now ((plan_behind network picks plan).courses p)) (sym one.1.0 ∙ gone.nodes p p_inside) in
         let q_now : n ≡ now ((plan_behind network picks plan).courses q) = some_same n (now ((plan_behind network picks plan).courses q)) (sym is ∙ gone.nodes q q_inside) in
         let held = whole-all network nodes images powers (held_at images) loading picks board gone p p_inside
-            (ap (memory_ops.stands (entry_of (held_at images) p)) (sym p_now) ∙ one.1.1) q q_inside in
+        (ap (memory_ops.stands (entry_of (held_at images) p)) (sym p_now) ∙ one.1.1) q q_inside in
         subst (λ m. All (StandsIn m) (placed_all (image_at images q).segments)) (sym (ap (λ x. x.cpu.memory) q_now ∙ held.is))
         (whole-pieces (image_at images q) (power_at powers q).bytes held.memory (lies q q_inside) (apart q q_inside) held.fact)
 
@@ -207,6 +207,8 @@ module _ (network : NetworkState) (nodes : List LoadNode) (images : List ImageBy
 pub boots : Boots
 boots network nodes images powers pairing tree whole are sized = (
   loaded network nodes images powers pairing tree whole are sized,
-  (loaded-with network nodes images powers pairing tree whole are sized,
-  λ picks on. loads network nodes images powers pairing tree whole are sized picks on),
+  (
+    loaded-with network nodes images powers pairing tree whole are sized,
+    λ picks on. loads network nodes images powers pairing tree whole are sized picks on,
+  ),
 )

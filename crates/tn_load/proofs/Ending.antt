@@ -273,9 +273,10 @@ module _ {N : Type 0} (ops : NodeOps N) (network : NetworkState) (holds : HoldSt
       (ends-same 0 (length network.sizes) rest.courses plan.courses (end-behind network picks plan))
 
   pub rests : AtRest ops network holds (after ops network s picks) ↔ (length picks ≡ all)
-  rests =
-      (λ still. by_number (picks_left (length network.sizes) rest) refl still,
-      λ full. at-rest ops network holds Q missing kept rest (after ops network s picks) gone.0 (rooted-behind network picks plan rooted) whole (none_left full))
+  rests = (
+    λ still. by_number (picks_left (length network.sizes) rest) refl still,
+    λ full. at-rest ops network holds Q missing kept rest (after ops network s picks) gone.0 (rooted-behind network picks plan rooted) whole (none_left full),
+  )
     where
       by_number : (n : ℕ) → picks_left (length network.sizes) rest ≡ n → AtRest ops network holds (after ops network s picks) → length picks ≡ all
       by_number zero none still = let is = gone.1 in omega (arith, is, none)

@@ -137,19 +137,19 @@ module _ (network : NetworkState) (nodes : List LoadNode) (images : List ImageBy
   unfolding tree_plan
   picks-first =
       let own : total (λ p. weight (acts_left (plan.courses p))) (length network.sizes)
-          ≡ total (λ p. weight (acts_at images nodes (place_of nodes p))) (length network.sizes) =
-          total-same (λ p. weight (acts_left (plan.courses p))) (λ p. weight (acts_at images nodes (place_of nodes p))) (length network.sizes)
-          (λ p inside. ap weight (planned network nodes images powers holds h p inside).acts_are) in
+      ≡ total (λ p. weight (acts_at images nodes (place_of nodes p))) (length network.sizes) =
+      total-same (λ p. weight (acts_left (plan.courses p))) (λ p. weight (acts_at images nodes (place_of nodes p))) (length network.sizes)
+      (λ p inside. ap weight (planned network nodes images powers holds h p inside).acts_are) in
       let once : total (λ p. weight (acts_at images nodes (place_of nodes p))) (length network.sizes)
-          ≡ total (λ k. weight (acts_at images nodes (place_of nodes (node_at nodes k).processor))) (length nodes) =
-          sums-once (λ p. weight (acts_at images nodes (place_of nodes p))) (λ k. (node_at nodes k).processor) (length nodes)
-          (length network.sizes) (λ k inside. (h.whole.placed k inside).processor) (λ j k less inside. h.whole.distinct j k less inside)
-          (λ q inside. h.tree.all q inside) in
+      ≡ total (λ k. weight (acts_at images nodes (place_of nodes (node_at nodes k).processor))) (length nodes) =
+      sums-once (λ p. weight (acts_at images nodes (place_of nodes p))) (λ k. (node_at nodes k).processor) (length nodes)
+      (length network.sizes) (λ k inside. (h.whole.placed k inside).processor) (λ j k less inside. h.whole.distinct j k less inside)
+      (λ q inside. h.tree.all q inside) in
       let places : total (λ k. weight (acts_at images nodes (place_of nodes (node_at nodes k).processor))) (length nodes)
-          ≡ total (λ k. weight (acts_at images nodes k)) (length nodes) =
-          total-same (λ k. weight (acts_at images nodes (place_of nodes (node_at nodes k).processor))) (λ k. weight (acts_at images nodes k))
-          (length nodes)
-          (λ k inside. ap (λ j. weight (acts_at images nodes j)) (place-is network nodes h.pairing h.tree h.whole k inside)) in
+      ≡ total (λ k. weight (acts_at images nodes k)) (length nodes) =
+      total-same (λ k. weight (acts_at images nodes (place_of nodes (node_at nodes k).processor))) (λ k. weight (acts_at images nodes k))
+      (length nodes)
+      (λ k inside. ap (λ j. weight (acts_at images nodes j)) (place-is network nodes h.pairing h.tree h.whole k inside)) in
       let all = all-picks images nodes (length network.sizes) h.whole in
       omega (arith, own, once, places, all)
 
@@ -194,19 +194,19 @@ module _ (network : NetworkState) (nodes : List LoadNode) (images : List ImageBy
           let at = spotted network nodes images powers holds h p inside in
           let root : p ≡ network.root = sym at.processor ∙ (ap (λ k. (node_at nodes k).processor) is ∙ root-processor network nodes h.pairing h.tree h.whole) in
           let link : (plan.courses p).boot ≡ network.root_link =
-              (planned network nodes images powers holds h p inside).boot ∙ (ap (λ k. (node_at nodes k).boot_link) is ∙ h.tree.boot) in
+          (planned network nodes images powers holds h p inside).boot ∙ (ap (λ k. (node_at nodes k).boot_link) is ∙ h.tree.boot) in
           let host : far_at network p (plan.courses p).boot ≡ Host =
-              ap (λ x. far_at network x (plan.courses p).boot) root ∙ (ap (λ x. far_at network network.root x) link ∙ h.pairing.hosted) in
+          ap (λ x. far_at network x (plan.courses p).boot) root ∙ (ap (λ x. far_at network network.root x) link ∙ h.pairing.hosted) in
           let never = sym host ∙ far in
           absurd cc
       falls p q m inside far (suc k) is =
           let at = spotted network nodes images powers holds h p inside in
           let up = under network nodes h.pairing h.tree h.whole (place_of nodes p) (omega (arith, is)) at.within in
           let there : far_at network p (plan.courses p).boot ≡ Link (node_at nodes up.parent).processor (node_at nodes (place_of nodes p)).parent_link =
-              ap (λ x. far_at network p x) (planned network nodes images powers holds h p inside).boot
-              ∙ (ap (λ x. far_at network x (node_at nodes (place_of nodes p)).boot_link) (sym at.processor) ∙ up.far) in
+          ap (λ x. far_at network p x) (planned network nodes images powers holds h p inside).boot
+          ∙ (ap (λ x. far_at network x (node_at nodes (place_of nodes p)).boot_link) (sym at.processor) ∙ up.far) in
           let same : (node_at nodes up.parent).processor ≡ q =
-              link_first (node_at nodes up.parent).processor (node_at nodes (place_of nodes p)).parent_link q m (sym there ∙ far) in
+          link_first (node_at nodes up.parent).processor (node_at nodes (place_of nodes p)).parent_link q m (sym there ∙ far) in
           let spot_is : place_of nodes q ≡ up.parent = ap (place_of nodes) (sym same) ∙ place-is network nodes h.pairing h.tree h.whole up.parent up.within in
           let before = parent-before nodes (length network.sizes) h.whole (place_of nodes p) up.parent at.within up.is in
           omega (arith, spot_is, before)

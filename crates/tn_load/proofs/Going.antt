@@ -96,9 +96,12 @@ module _ {N : Type 0} (ops : NodeOps N) (post : Post) where
         × AreAnswered (acts_of (later ms)) × ((l : ℕ) → is_waiting l (acts_of (later ms)) ≡ is_sending l act)
     after-next [] end act follow answered is = cc
     after-next (m ∷ ms) end act follow answered is =
-        let e : m.act ≡ act = cc in
-        (subst (λ a. Does ops post a m.node (first_node end ms)) e follow.1, follow.2, answered.1,
-        λ l. answered.0 l ∙ ap (λ a. is_sending l a) e)
+        let e : m.act ≡ act = cc in (
+          subst (λ a. Does ops post a m.node (first_node end ms)) e follow.1,
+          follow.2,
+          answered.1,
+          λ l. answered.0 l ∙ ap (λ a. is_sending l a) e,
+        )
 
 -- acts that wait begin with the acknowledge
 waiting_for : (act : Act) (acts : List Act) (l : ℕ) → is_waiting l (act ∷ acts) ≡ true → act ≡ Acks l

@@ -14,7 +14,6 @@ use Rattle.tn_load.specs.Shares.{taken_by}
 use Rattle.tn_load.proofs.Going.{Goes, same_number, other_number, each-advanced, advanced-here}
 
 module _ {N : Type 0} (ops : NodeOps N) (holds : HoldState) (Q : ℕ → N → List Act → Type 0) (p : ℕ) (courses : ℕ → Course N) where
-
   -- ---- a step
 
   module _ (g : Goes ops holds Q p (courses p) Step) where

@@ -42,7 +42,6 @@ module _ {N : Type 0} (ops : NodeOps N) (network : NetworkState) (holds : HoldSt
     abbrev weights : (ℕ → Course N) → ℕ
     weights courses = sum_below count (λ q. weight (acts_left (courses q)))
 
-
     length-others : (bytes rest : List ℕ) (byte : ℕ) → bytes ≡ byte ∷ rest → length bytes ≡ 1 + length rest
     length-others bytes rest byte is = ap (λ x. length x) is ∙ omega arith
 

@@ -14,10 +14,13 @@ lie-in size (s ∷ rest) all = (record { some = all.0.some; low = all.0.low; hig
 outside : (s : SegmentBytes) (rest : List SegmentBytes) (x : ℕ) → s.base ≤ x → x < s.base + length s.bytes → AllByRecursion (AreTwoApart s) rest
     → IsOutside x rest
 outside s [] x low high all = tt
-outside s (t ∷ rest) x low high all = (elim all.0 [
-  | inl before ↦ inl (omega (arith, before, high))
-  | inr behind ↦ inr (omega (arith, behind, low))
-], outside s rest x low high all.1)
+outside s (t ∷ rest) x low high all = (
+  elim all.0 [
+    | inl before ↦ inl (omega (arith, before, high))
+    | inr behind ↦ inr (omega (arith, behind, low))
+  ],
+  outside s rest x low high all.1,
+)
 
 apart-all : (segments : List SegmentBytes) → AreAllApart segments → AreApart segments
 apart-all [] all = tt

@@ -113,9 +113,9 @@ module _ (parent_at : ℕ → Option ℕ) (entry : ℕ → ℕ × Branch Site) (
       let its = is-parent (parent_at c) k test in
       let more : children_below parent_at k (suc c) ≡ children_below parent_at k c ++ c ∷ [] = rw test refl in
       let e : with_child (hanging c) (entry c).0 (entry c).1.root (entry c).1.below ≡ hanging (suc c) =
-          sym (ap (λ xs. hung (map entry xs)) more ∙ hung-last (children_below parent_at k c) c) in
+      sym (ap (λ xs. hung (map entry xs)) more ∙ hung-last (children_below parent_at k c) c) in
       let free_link : IsFree (entry c).0 (hanging c) =
-          h.free (entry c).0 (λ d inside is same. let less = rise d c inside (omega arith) is its in omega (arith, less, same)) in
+      h.free (entry c).0 (λ d inside is same. let less = rise d c inside (omega arith) is its in omega (arith, less, same)) in
       record {
         apart = subst AreApart e (apart-more (hanging c) (entry c).0 (entry c).1.root (entry c).1.below h.apart free_link);
         free =
@@ -198,8 +198,8 @@ module _ (images : List ImageBytes) (nodes : List LoadNode) (count : ℕ) (whole
       let h = hangs p within in
       let e = below-is p within in
       let at : IsChild (node_at nodes k).parent_link (branch_at images nodes k).root (branch_at images nodes k).below
-          (branch_at images nodes p).below =
-          subst (IsChild (node_at nodes k).parent_link (branch_at images nodes k).root (branch_at images nodes k).below) (sym e) (h.child k inside is) in
+      (branch_at images nodes p).below =
+      subst (IsChild (node_at nodes k).parent_link (branch_at images nodes k).root (branch_at images nodes k).below) (sym e) (h.child k inside is) in
       child-fits (branch_at images nodes p).root (branch_at images nodes p).below (node_at nodes k).parent_link
       (branch_at images nodes k).root (branch_at images nodes k).below at (subst AreApart (sym e) h.apart)
 
@@ -211,8 +211,8 @@ module _ (images : List ImageBytes) (nodes : List LoadNode) (count : ℕ) (whole
       let h = hangs p within in
       let e = below-is p within in
       let at : IsChild (node_at nodes k).parent_link (branch_at images nodes k).root (branch_at images nodes k).below
-          (branch_at images nodes p).below =
-          subst (IsChild (node_at nodes k).parent_link (branch_at images nodes k).root (branch_at images nodes k).below) (sym e) (h.child k inside is) in
+      (branch_at images nodes p).below =
+      subst (IsChild (node_at nodes k).parent_link (branch_at images nodes k).root (branch_at images nodes k).below) (sym e) (h.child k inside is) in
       part_at-child front back (node_at nodes k).parent_link (branch_at images nodes k).root (branch_at images nodes k).below
       (branch_at images nodes p).below at (subst AreApart (sym e) h.apart)
 

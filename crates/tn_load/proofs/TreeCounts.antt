@@ -77,7 +77,7 @@ module _ (images : List ImageBytes) (nodes : List LoadNode) (count : ℕ) (whole
   weighs-node k inside =
       let life_is = weight-life (branch_at images nodes k).root (branch_at images nodes k).below in
       let root_is : length (branch_at images nodes k).root.image.segments ≡ length (site_of images (node_at nodes k)).image.segments =
-          ap (λ b. length b.root.image.segments) (branch-is images nodes count whole k inside) in
+      ap (λ b. length b.root.image.segments) (branch-is images nodes count whole k inside) in
       let to_children = children_sent k inside in
       let their_steps = children_steps k inside in
       omega arith
@@ -95,8 +95,8 @@ module _ (images : List ImageBytes) (nodes : List LoadNode) (count : ℕ) (whole
       go zero size = absurd (let some = whole.some in omega arith)
       go (suc n) size =
           let each = total-same (λ k. weighs k + receives k) (λ k. makes k + sum_by receives (children_below (λ c. (node_at nodes c).parent) k (suc n))) (suc n)
-              (λ k inside. weighs-node k (omega (arith, size))
-              ∙ ap (λ cs. makes k + sum_by receives cs) (whole.children k (omega (arith, size)) ∙ ap (children_below (λ c. (node_at nodes c).parent) k) size)) in
+          (λ k inside. weighs-node k (omega (arith, size))
+          ∙ ap (λ cs. makes k + sum_by receives cs) (whole.children k (omega (arith, size)) ∙ ap (children_below (λ c. (node_at nodes c).parent) k) size)) in
           let left = total-add weighs receives (suc n) in
           let right = total-add makes (λ k. sum_by receives (children_below (λ c. (node_at nodes c).parent) k (suc n))) (suc n) in
           let once = counts-once receives (λ c. (node_at nodes c).parent) n whole.top (parents n size) in
@@ -113,7 +113,7 @@ module _ (images : List ImageBytes) (nodes : List LoadNode) (count : ℕ) (whole
           let rest = upto j (omega arith) in
           let next : j + 1 ≡ suc j = omega arith in
           let at : sum_by (λ x. node_steps images nodes x.0 x.1) (enumerate_from 0 (take (suc j) nodes))
-              ≡ sum_by (λ x. node_steps images nodes x.0 x.1) (enumerate_from 0 (take (j + 1) nodes)) = ap (λ i. sum_by (λ x. node_steps images nodes x.0 x.1) (enumerate_from 0 (take i nodes))) (sym next) in
+          ≡ sum_by (λ x. node_steps images nodes x.0 x.1) (enumerate_from 0 (take (j + 1) nodes)) = ap (λ i. sum_by (λ x. node_steps images nodes x.0 x.1) (enumerate_from 0 (take i nodes))) (sym next) in
           omega arith
 
   -- the picks of all, with the bytes that the host sends

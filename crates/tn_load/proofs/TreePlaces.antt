@@ -110,7 +110,7 @@ module _ (network : NetworkState) (nodes : List LoadNode) (pairing : IsPairing n
   under k some inside =
       let below = tree.below k some inside in
       let end : IsEnd network (node_at nodes below.place).processor (node_at nodes k).parent_link =
-          record { processor = processor-inside below.place below.here; link = below.link } in
+      record { processor = processor-inside below.place below.here; link = below.link } in
       record {
         parent = below.place;
         within = below.here;

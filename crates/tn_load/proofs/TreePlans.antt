@@ -140,7 +140,7 @@ module _ (network : NetworkState) (nodes : List LoadNode) (images : List ImageBy
   unfolding offers
   ended p inside m =
       let at : (branch network nodes images powers holds h p).root.image.entry == entry_of holds p ≡ true =
-          ap (λ i. i.entry == entry_of holds p) (image-is p inside) ∙ (ap (λ e. (image_at images p).entry == e) (h.entries p inside) ∙ same (image_at images p).entry) in
+      ap (λ i. i.entry == entry_of holds p) (image-is p inside) ∙ (ap (λ e. (image_at images p).entry == e) (h.entries p inside) ∙ same (image_at images p).entry) in
       record {
         still = stays holds.held ((branch network nodes images powers holds h p).root.image.entry == entry_of holds p) h.held at;
         offers = each_link (λ l. memory_ops.offers l (at_entry (λ m. m) (branch network nodes images powers holds h p).root.image m) ≡ None) refl refl refl refl;
@@ -226,7 +226,7 @@ module _ (network : NetworkState) (nodes : List LoadNode) (images : List ImageBy
   takes-are p inside =
       let c = planned p inside in
       let at : (node_at nodes (place p)).boot_link == (tree_plan.courses p).boot ≡ true =
-          ap (λ b. (node_at nodes (place p)).boot_link == b) c.boot ∙ same (node_at nodes (place p)).boot_link in
+      ap (λ b. (node_at nodes (place p)).boot_link == b) c.boot ∙ same (node_at nodes (place p)).boot_link in
       rw at (ap takes_of c.acts_are)
 
   takes-none : (p l : ℕ) → p < length network.sizes → l ≢ (node_at nodes (place p)).boot_link → taken_by l (tree_plan.courses p) ≡ []
@@ -251,8 +251,8 @@ module _ (network : NetworkState) (nodes : List LoadNode) (images : List ImageBy
       let root : p ≡ network.root = sym at.processor ∙ (ap (λ k. (node_at nodes k).processor) is ∙ root-processor network nodes h.pairing h.tree h.whole) in
       let link : (node_at nodes (place p)).boot_link ≡ network.root_link = ap (λ k. (node_at nodes k).boot_link) is ∙ h.tree.boot in
       let host : far_at network p (node_at nodes (place p)).boot_link ≡ Host =
-          ap (λ x. far_at network x (node_at nodes (place p)).boot_link) root
-          ∙ (ap (λ x. far_at network network.root x) link ∙ h.pairing.hosted) in
+      ap (λ x. far_at network x (node_at nodes (place p)).boot_link) root
+      ∙ (ap (λ x. far_at network network.root x) link ∙ h.pairing.hosted) in
       ap (λ k. takes_of (acts_at images nodes k)) is
       ∙ (takes-stream images nodes ∙ sym (ap (from_far (stream (whole_branch images nodes))) host))
   carried_up p inside (suc k) is =
@@ -261,12 +261,12 @@ module _ (network : NetworkState) (nodes : List LoadNode) (images : List ImageBy
       let parent : ℕ = up.parent in
       let parent_inside : (node_at nodes parent).processor < length network.sizes = (h.whole.placed parent up.within).processor in
       let far : far_at network p (node_at nodes (place p)).boot_link ≡ Link (node_at nodes parent).processor (node_at nodes (place p)).parent_link =
-          ap (λ x. far_at network x (node_at nodes (place p)).boot_link) (sym at.processor) ∙ up.far in
+      ap (λ x. far_at network x (node_at nodes (place p)).boot_link) (sym at.processor) ∙ up.far in
       let there : sent-by (node_at nodes parent).processor (node_at nodes (place p)).parent_link
-          ≡ sends_of (node_at nodes (place p)).parent_link (acts_at images nodes parent) =
-          sends-are (node_at nodes parent).processor (node_at nodes (place p)).parent_link parent_inside
-          ∙ ap (λ k. sends_of (node_at nodes (place p)).parent_link (acts_at images nodes k))
-          (place-is network nodes h.pairing h.tree h.whole parent up.within) in
+      ≡ sends_of (node_at nodes (place p)).parent_link (acts_at images nodes parent) =
+      sends-are (node_at nodes parent).processor (node_at nodes (place p)).parent_link parent_inside
+      ∙ ap (λ k. sends_of (node_at nodes (place p)).parent_link (acts_at images nodes k))
+      (place-is network nodes h.pairing h.tree h.whole parent up.within) in
       takes-sent images nodes (length network.sizes) h.whole (place p) parent at.within up.within up.is
       ∙ (sym there ∙ sym (ap (from_far (stream (whole_branch images nodes))) far))
 
@@ -287,9 +287,9 @@ module _ (network : NetworkState) (nodes : List LoadNode) (images : List ImageBy
       quiet apart (Link q m) far =
           silent-at q m (h.pairing.ends p l q m end far).processor
           (λ c within other.
-              let pair = link_same p (node_at nodes c).processor l (node_at nodes c).boot_link (sym (h.pairing.ways p l q m end far) ∙ other) in
-              let spot_is : place p ≡ c = ap (place_of nodes) pair.0 ∙ place-is network nodes h.pairing h.tree h.whole c within in
-              apart (pair.1 ∙ sym (ap (λ k. (node_at nodes k).boot_link) spot_is)))
+          let pair = link_same p (node_at nodes c).processor l (node_at nodes c).boot_link (sym (h.pairing.ways p l q m end far) ∙ other) in
+          let spot_is : place p ≡ c = ap (place_of nodes) pair.0 ∙ place-is network nodes h.pairing h.tree h.whole c within in
+          apart (pair.1 ∙ sym (ap (λ k. (node_at nodes k).boot_link) spot_is)))
 
       go : (test : Bool) → l == (node_at nodes (place p)).boot_link ≡ test
           → taken_by l (tree_plan.courses p) ≡ from_far (stream (whole_branch images nodes)) (far_at network p l)

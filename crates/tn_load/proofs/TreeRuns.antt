@@ -82,8 +82,8 @@ module _ (network : NetworkState) (nodes : List LoadNode) (images : List ImageBy
       let k : ℕ = spot p in
       let behind = children-behind nodes (length network.sizes) k h.whole at.within in
       let low = recursion_from_All (λ c. (node_at nodes c).parent_link < 4) (node_at nodes k).children
-          (All-weaker (IsBehind nodes k) (λ c. (node_at nodes c).parent_link < 4) (λ c b. (h.whole.placed c b.within).parent_link)
-          (node_at nodes k).children behind) in
+      (All-weaker (IsBehind nodes k) (λ c. (node_at nodes c).parent_link < 4) (λ c b. (h.whole.placed c b.within).parent_link)
+      (node_at nodes k).children behind) in
       subst (λ b. AreLinked b.below) (sym (branch-is images nodes (length network.sizes) h.whole k at.within))
       (linked-hung (linked images nodes (length network.sizes) h.whole) (node_at nodes k).children low)
 

@@ -65,8 +65,8 @@ module _ (network : NetworkState) (nodes : List LoadNode) (images : List ImageBy
   facts : (p : ℕ) → p < length network.sizes → Facts network nodes images powers holds h p (now (plan.courses p)) (left p)
   facts p inside =
       let course = behind-kept (IsCourse memory_ops holds (Facts network nodes images powers holds h))
-          (course-goes memory_ops holds (Facts network nodes images powers holds h)) network picks (tree_plan network nodes images powers holds h) p
-          (planned network nodes images powers holds h p inside).course in
+      (course-goes memory_ops holds (Facts network nodes images powers holds h)) network picks (tree_plan network nodes images powers holds h) p
+      (planned network nodes images powers holds h p inside).course in
       fact_now memory_ops (record { holds = holds; processor = p; boot = (plan.courses p).boot }) (Facts network nodes images powers holds h p)
       (plan.courses p).moments (plan.courses p).end course.follow
 
@@ -105,8 +105,8 @@ module _ (network : NetworkState) (nodes : List LoadNode) (images : List ImageBy
       let latch = latch_of s (Link (at k) boot) in
       let one = one_waiting latch (left (at up.parent)) (node_at nodes k).parent_link full in
       let sent : takes_of (left (at k)) ≡ bytes_in latch ++ sends_of (node_at nodes k).parent_link (left (at up.parent)) =
-          sym gets ∙ (bytes ∙ (ap (λ f. bytes_in latch ++ (outgoing plan f ++ [])) up.far
-          ∙ ap (λ xs. bytes_in latch ++ xs) (append-nil (sends_of (node_at nodes k).parent_link (left (at up.parent)))))) in
+      sym gets ∙ (bytes ∙ (ap (λ f. bytes_in latch ++ (outgoing plan f ++ [])) up.far
+      ∙ ap (λ xs. bytes_in latch ++ xs) (append-nil (sends_of (node_at nodes k).parent_link (left (at up.parent)))))) in
       ap length sent ∙ (length-append (bytes_in latch) (sends_of (node_at nodes k).parent_link (left (at up.parent)))
       ∙ ap (λ n. n + length (sends_of (node_at nodes k).parent_link (left (at up.parent)))) one)
     where
@@ -131,7 +131,7 @@ module _ (network : NetworkState) (nodes : List LoadNode) (images : List ImageBy
       let sent = still_sent (suc k) within up in
       let parts = parts-are (suc k) within up in
       let few : length (sends_of (node_at nodes (suc k)).parent_link (left (at up.parent)))
-          < last_parts (branch_at images nodes up.parent).below (node_at nodes (suc k)).parent_link = omega (arith, sent, parts, less) in
+      < last_parts (branch_at images nodes up.parent).below (node_at nodes (suc k)).parent_link = omega (arith, sent, parts, less) in
       upward fuel up.parent (omega (arith, before, small)) up.within ((along up.parent up.within).less (node_at nodes (suc k)).parent_link few)
 
   -- where the root takes its part of the last wave, no place has more than its own left to take
@@ -170,7 +170,7 @@ module _ (network : NetworkState) (nodes : List LoadNode) (images : List ImageBy
       let none : length (takes_of (left p)) ≡ 0 = ap (λ acts. length (takes_of acts)) (ended p inside stands) in
       let none_at : length (takes_of (left (at (place_of nodes p)))) ≡ 0 = ap (λ x. length (takes_of (left x))) mine.processor ∙ none in
       let root = upward (suc (place_of nodes p)) (place_of nodes p) (omega arith) mine.within
-          (omega (arith, none_at, some-last (place_of nodes p))) in
+      (omega (arith, none_at, some-last (place_of nodes p))) in
       let there = spotted network nodes images powers holds h q within in
       let few = downward (suc (place_of nodes q)) (place_of nodes q) (omega arith) there.within (omega (arith, root)) in
       let few_left : length (takes_of (left q)) ≤ last_of_place (place_of nodes q) = omega (arith, few, ap (λ x. length (takes_of (left x))) there.processor) in
