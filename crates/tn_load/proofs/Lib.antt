@@ -11,3 +11,4 @@ pub mod Keeping
 pub mod Enabling
 pub mod Resting
 pub mod Ending
+pub mod NetworkLaws

@@ -1,2 +1,6 @@
 //! Loading of networks of T425s: what each processor does alone, and that no order of steps matters.
 #![tactic(auto)]
+
+mod laws;
+
+pub use laws::{ends_once, goes_along, goes_on, keep};
