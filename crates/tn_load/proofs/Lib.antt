@@ -12,3 +12,5 @@ pub mod Enabling
 pub mod Resting
 pub mod Ending
 pub mod NetworkLaws
+pub mod Sameness
+pub mod Diamonds

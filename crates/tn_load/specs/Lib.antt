@@ -4,3 +4,4 @@ pub mod Plans
 pub mod Shares
 pub mod UnderWay
 pub mod Keep
+pub mod Exchange
