@@ -45,3 +45,6 @@ pub mod EndsLoaded
 pub mod Onward
 pub mod WholeBefore
 pub mod Booting
+pub mod NetworkLaws
+pub mod Sameness
+pub mod Diamonds

@@ -7,3 +7,4 @@ pub mod Keep
 pub mod Targets
 pub mod Boots
 pub mod Inner
+pub mod Exchange
