@@ -1,0 +1,4 @@
+pub mod PlainSpaces
+pub mod NodeActs
+pub mod Lives
+pub mod Loadings

@@ -1,0 +1,10 @@
+pub mod Acts
+pub mod LoneRuns
+pub mod Plans
+pub mod Shares
+pub mod UnderWay
+pub mod Keep
+pub mod Targets
+pub mod Boots
+pub mod Inner
+pub mod Exchange

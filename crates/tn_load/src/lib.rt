@@ -1,0 +1,8 @@
+//! Loading of networks of T425s: what each processor does alone, and that no order of steps matters.
+#![tactic(auto)]
+
+mod laws;
+mod loads;
+
+pub use laws::{ends_once, goes_along, goes_on, keep};
+pub use loads::boots;
