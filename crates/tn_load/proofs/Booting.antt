@@ -1,34 +1,39 @@
 -- The loading theorem, put together.
 use Rattle.std.proofs.Common.{◌≡◌, ◌⊎◌, inl, inr, ℕ, zero, suc, ◌+◌, ◌-◌, ◌*◌, ◌<◌, ◌≤◌, Bool, true, false, List, [], ◌∷◌, length, map, All, get_or, replicate}
-use Rattle.std.proofs.Common.{Option, Some, None, refl, sym, ap, ◌∙◌, subst, arith}
+use Rattle.std.proofs.Common.{Option, Some, None, refl, sym, ap, ◌∙◌, subst, arith, append-nil, ◌++◌}
 use Rattle.std.specs.Prelude.{slice_get, slice_index, slice_index_or, option_map, ◌↔◌}
 use Rattle.std.specs.List.{AllByRecursion}
 use Rattle.std.proofs.lemmas.List.{length-map, get_or-map}
 use Rattle.std.proofs.lemmas.List.Elements.{All-from_recursion, recursion_from_All}
 use Rattle.std.proofs.lemmas.Option.{slice_get-map, slice_get-get_or, slice_get_within}
 use Rattle.tn_word.specs.Words.{most_neg, load_base}
-use Rattle.tn_net.specs.Networks.{NetworkState, IsPairing}
+use Rattle.tn_net.specs.Networks.{NetworkState, IsPairing, far_at}
+use Rattle.tn_net.specs.declared.networks.Far.{Far}
+use Rattle.tn_net.specs.declared.networks.Far.TheVariants.{Nothing, Host, Link}
 use Rattle.tn_net.specs.Trees.{LoadNode, IsLoadTree}
 use Rattle.tn_net.specs.WholeTrees.{IsWholeTree}
 use Rattle.tn_stream.specs.Images.{SegmentBytes, ImageBytes}
 use Rattle.tn_stream.specs.PlainImages.{end, IsPlain}
 use Rattle.tn_stream.specs.Lengths.{load_steps}
-use Rattle.tn_stream.specs.LoadBranches.{no_image}
+use Rattle.tn_stream.specs.Streams.{stream}
+use Rattle.tn_stream.specs.LoadBranches.{no_image, whole_branch}
 use Rattle.tn_node.specs.Nodes.{NodeState}
 use Rattle.tn_network.specs.declared.picks.Pick.{Pick}
 use Rattle.tn_network.specs.Boards.{BoardState, at_node, given}
 use Rattle.tn_network.specs.Holds.{HoldState, entry_of}
+use Rattle.tn_network.specs.NodeOps.{stands_at}
 use Rattle.tn_network.specs.Loads.{Target, StandsIn, IsLoadedNode, AreLoadedNodes, IsLoaded}
 use Rattle.tn_network.specs.Nets.{memory_ops}
 use Rattle.tn_network.specs.PickLists.{AreEnabled, after, AtRest}
-use Rattle.tn_network.specs.Resets.{PowerState, AreSized}
+use Rattle.tn_network.specs.Resets.{PowerState, AreSized, reset_board}
 use Rattle.tn_load.specs.Plans.{Course, Plan, now, picks_left, plan_behind}
 use Rattle.tn_load.specs.Keep.{Anything, UnderWay, IsRooted, IsWhole, ends_from, ended_board}
 use Rattle.tn_load.specs.Targets.{placed_all, target_of, targets_of}
-use Rattle.tn_load.specs.Boots.{image_at, no_power, power_at, AreFor, held_at, begun, IsOutside, IsUntouched, IsLoadedWith, AreWholeFirst, Loads, Boots}
+use Rattle.tn_load.specs.Boots.{image_at, no_power, power_at, AreFor, held_at, begun, Runs, Rests, state_behind, IsLive, IsOutside, memory_at, IsTidy, IsSafe}
+use Rattle.tn_load.specs.Boots.{Loads, Boots, Loading}
 use Rattle.tn_load.specs.Inner.NodeActs.{Holds}
 use Rattle.tn_load.specs.Inner.Lives.{LieIn}
-use Rattle.tn_load.specs.Inner.Loadings.{IsLoading}
+use Rattle.tn_load.specs.Inner.Loadings.{from_host, unsent, IsLoading}
 use Rattle.tn_load.proofs.Keeping.{along}
 use Rattle.tn_load.proofs.Ending as ending
 use Rattle.tn_load.proofs.Lives.{Whole, at_entry, length-with_segments}
@@ -89,6 +94,9 @@ module _ (network : NetworkState) (nodes : List LoadNode) (images : List ImageBy
         held = refl;
       }
 
+  abbrev bytes : List ℕ
+  bytes = stream (whole_branch images nodes)
+
   abbrev plan : Plan (NodeState (List ℕ))
   plan = tree_plan network nodes images powers (held_at images) loading
 
@@ -130,85 +138,127 @@ module _ (network : NetworkState) (nodes : List LoadNode) (images : List ImageBy
       subst (λ x. IsLoadedNode (λ m. m) n x) (target-is p t at.0 target)
       (subst (λ x. IsLoadedNode (λ m. m) x (target_of (image_at images p))) (sym (at.1 ∙ e.is)) done)
 
-  untouched : (p : ℕ) (n : NodeState (List ℕ)) → slice_get loaded.nodes p ≡ Some n
-      → IsUntouched (image_at images p) (power_at powers p).bytes n.cpu.memory
-  untouched p n is =
-      let at = node-is p n is in
-      let e = at-entry p at.0 in
-      let memory : n.cpu.memory ≡ e.memory = ap (λ x. x.cpu.memory) (at.1 ∙ e.is) in
-      subst (IsUntouched (image_at images p) (power_at powers p).bytes) (sym memory) (record {
-        size = e.whole.size ∙ length-with_segments (image_at images p).segments (power_at powers p).bytes (length (power_at powers p).bytes) refl (lies p at.0);
-        bytes =
-            λ a low out. whole-rest (image_at images p) (power_at powers p).bytes e.memory a (lies p at.0) e.whole low
-            (outside-all a (image_at images p).segments (recursion_from_All (λ s. (a < s.base) ⊎ (end s ≤ a)) (image_at images p).segments out));
-      })
+  untouched : (p : ℕ) → p < count → (a : ℕ) → load_base ≤ a → IsOutside a (image_at images p).segments
+      → slice_index (memory_at loaded p) (a - most_neg) ≡ slice_index (power_at powers p).bytes (a - most_neg)
+  untouched p inside a low out =
+      let e = at-entry p inside in
+      let zero_p : 0 + p ≡ p = omega arith in
+      let node : slice_get loaded.nodes p ≡ Some (plan.courses p).end =
+          ends-at 0 count p plan.courses inside ∙ ap (λ q. Some (plan.courses q).end) zero_p in
+      let memory : memory_at loaded p ≡ e.memory =
+          ap (given [] (λ (n : NodeState (List ℕ)). n.cpu.memory)) node ∙ ap (λ x. x.cpu.memory) e.is in
+      ap (λ m. slice_index m (a - most_neg)) memory
+      ∙ whole-rest (image_at images p) (power_at powers p).bytes e.memory a (lies p inside) e.whole low
+      (outside-all a (image_at images p).segments (recursion_from_All (λ s. (a < s.base) ⊎ (end s ≤ a)) (image_at images p).segments out))
 
-  loaded-with : IsLoadedWith network images powers loaded
-  loaded-with =
+  is-loaded : IsLoaded (λ m. m) loaded (targets_of images)
+  is-loaded =
       record {
-        loaded = record {
-          left = refl;
-          sent = refl;
-          host_latch = refl;
-          latches = All-from_recursion (λ (byte : Option ℕ). byte ≡ None) (replicate (4 * count) None) (empty-latches (4 * count));
-          nodes = loaded-each (λ m. m) loaded.nodes (targets_of images)
-              (ends-length 0 count plan.courses ∙ sym (length-map images target_of ∙ are.count)) each-loaded;
-        };
-        kept = refl;
-        rest = untouched;
+        left = refl;
+        sent = refl;
+        host_latch = refl;
+        latches = All-from_recursion (λ (byte : Option ℕ). byte ≡ None) (replicate (4 * count) None) (empty-latches (4 * count));
+        nodes = loaded-each (λ m. m) loaded.nodes (targets_of images)
+            (ends-length 0 count plan.courses ∙ sym (length-map images target_of ∙ are.count)) each-loaded;
       }
 
-  module _ (picks : List Pick) (on : AreEnabled memory_ops network (held_at images) (begun nodes images powers) picks) where
-    abbrev board : BoardState (NodeState (List ℕ))
-    board = after memory_ops network (begun nodes images powers) picks
+  standing : (o : Option (NodeState (List ℕ))) (e : ℕ) → given false (memory_ops.stands e) o ≡ true
+      → (n : NodeState (List ℕ)) × ((o ≡ Some n) × (memory_ops.stands e n ≡ true))
+  standing None e is = absurd cc
+  standing (Some n) e is = (n, (refl, is))
 
-    start : UnderWay memory_ops network (held_at images) (λ e. []) [] plan (begun nodes images powers)
-    start = goes-under network nodes images powers (held_at images) loading
+  -- ---- any beginning of the stream
 
-    root : IsRooted network plan
-    root = rooted network nodes images powers (held_at images) loading
+  module _ (held rest : List ℕ) (cut : bytes ≡ held ++ rest) where
+    abbrev first_plan : Plan (NodeState (List ℕ))
+    first_plan = record plan { sends = held }
 
-    all : picks_left count plan ≡ load_steps images nodes
-    all = picks-first network nodes images powers (held_at images) loading
+    start : UnderWay memory_ops network (held_at images) (unsent network rest) [] first_plan (reset_board powers held)
+    start = goes-under network nodes images powers (held_at images) loading held rest cut
 
-    gone : UnderWay memory_ops network (held_at images) (λ e. []) [] (plan_behind network picks plan) board
-    gone = (along memory_ops network (held_at images) Anything (λ e. []) [] plan (begun nodes images powers) picks start on).0
+    module _ (picks : List Pick) (on : Runs (begun network images powers held) picks) where
+      abbrev board : BoardState (NodeState (List ℕ))
+      board = state_behind (begun network images powers held) picks
 
-    standing : (o : Option (NodeState (List ℕ))) (e : ℕ) → given false (memory_ops.stands e) o ≡ true
-        → (n : NodeState (List ℕ)) × ((o ≡ Some n) × (memory_ops.stands e n ≡ true))
-    standing None e is = absurd cc
-    standing (Some n) e is = (n, (refl, is))
+      gone : UnderWay memory_ops network (held_at images) (unsent network rest) [] (plan_behind network picks first_plan) board
+          × (picks_left count first_plan ≡ length picks + picks_left count (plan_behind network picks first_plan))
+      gone = along memory_ops network (held_at images) Anything (unsent network rest) [] first_plan (reset_board powers held) picks start on
 
-    whole-first : AreWholeFirst images board
-    whole-first p stands q n is =
-        let one = standing (slice_get board.nodes p) (entry_of (held_at images) p) stands in
-        let p_inside : p < count = omega (arith, slice_get_within board.nodes p one.0 one.1.0, gone.count) in
-        let q_inside : q < count = omega (arith, slice_get_within board.nodes q n is, gone.count) in
-        let p_now : one.0 ≡ now ((plan_behind network picks plan).courses p) = some_same one.0 (now ((plan_behind network picks plan).courses p)) (sym one.1.0 ∙ gone.nodes p p_inside) in
-        let q_now : n ≡ now ((plan_behind network picks plan).courses q) = some_same n (now ((plan_behind network picks plan).courses q)) (sym is ∙ gone.nodes q q_inside) in
-        let held = whole-all network nodes images powers (held_at images) loading picks board gone p p_inside
-        (ap (memory_ops.stands (entry_of (held_at images) p)) (sym p_now) ∙ one.1.1) q q_inside in
-        subst (λ m. All (StandsIn m) (placed_all (image_at images q).segments)) (sym (ap (λ x. x.cpu.memory) q_now ∙ held.is))
-        (whole-pieces (image_at images q) (power_at powers q).bytes held.memory (lies q q_inside) (apart q q_inside) held.fact)
+      few : length picks ≤ load_steps images nodes
+      few =
+          let all = picks-first network nodes images powers (held_at images) loading held rest cut in
+          let used = gone.1 in
+          omega (arith, all, used)
 
-    loads : Loads network nodes images powers loaded picks
-    loads =
-        record {
-          bound = subst (λ x. length picks ≤ x) all
-              (ending.at_most memory_ops network (held_at images) Anything (λ e. []) [] plan (begun nodes images powers) picks start root (λ e h. refl) on);
-          rest = subst (λ x. AtRest memory_ops network (held_at images) board ↔ (length picks ≡ x)) all
-              (ending.rests memory_ops network (held_at images) Anything (λ e. []) [] plan (begun nodes images powers) picks start root (λ e h. refl) on);
-          one = λ full. ending.one_end memory_ops network (held_at images) Anything (λ e. []) [] plan (begun nodes images powers) picks start root
-              (λ e h. refl) on (full ∙ sym all);
-          whole = whole-first;
-        }
+      whole-first : (p q : ℕ) → p < length images → q < length images
+          → at_node false (λ node. stands_at (entry_of (held_at images) p) node) board.nodes p ≡ true
+          → All (StandsIn (memory_at board q)) (placed_all (image_at images q).segments)
+      whole-first p q p_image q_image stands =
+          let u = gone.0 in
+          let one = standing (slice_get board.nodes p) (entry_of (held_at images) p) stands in
+          let p_inside : p < count = omega (arith, p_image, are.count) in
+          let q_inside : q < count = omega (arith, q_image, are.count) in
+          let p_now : one.0 ≡ now ((plan_behind network picks first_plan).courses p) =
+              some_same one.0 (now ((plan_behind network picks first_plan).courses p)) (sym one.1.0 ∙ u.nodes p p_inside) in
+          let held_fact = whole-all network nodes images powers (held_at images) loading held rest picks board u p p_inside
+              (ap (memory_ops.stands (entry_of (held_at images) p)) (sym p_now) ∙ one.1.1) q q_inside in
+          let memory : memory_at board q ≡ held_fact.memory =
+              ap (given [] (λ (n : NodeState (List ℕ)). n.cpu.memory)) (u.nodes q q_inside) ∙ held_fact.is in
+          subst (λ m. All (StandsIn m) (placed_all (image_at images q).segments)) (sym memory)
+          (whole-pieces (image_at images q) (power_at powers q).bytes held_fact.memory (lies q q_inside) (apart q q_inside) held_fact.fact)
+
+    safe : IsSafe (begun network images powers held) images (load_steps images nodes)
+    safe = record { bound = few; whole = whole-first }
+
+  -- ---- the whole stream
+
+  uncut : bytes ≡ bytes ++ []
+  uncut = sym (append-nil bytes)
+
+  all-come : IsWhole network (unsent network [])
+  all-come e is = go e
+    where
+      far : (f : Far) → from_host [] f ≡ []
+      far Nothing = refl
+      far Host = refl
+      far (Link q m) = refl
+
+      go : (e : Far) → unsent network [] e ≡ []
+      go Nothing = refl
+      go Host = refl
+      go (Link p l) = far (far_at network p l)
+
+  begins : UnderWay memory_ops network (held_at images) (unsent network []) [] (record plan { sends = bytes }) (reset_board powers bytes)
+  begins = start bytes [] uncut
+
+  root : IsRooted network (record plan { sends = bytes })
+  root = rooted network nodes images powers (held_at images) loading bytes [] uncut
+
+  all : picks_left count (record plan { sends = bytes }) ≡ load_steps images nodes
+  all = let counts = picks-first network nodes images powers (held_at images) loading bytes [] uncut in omega (arith, counts)
+
+  ends-loaded : (picks : List Pick) → Runs (begun network images powers bytes) picks → length picks ≡ load_steps images nodes
+      → state_behind (begun network images powers bytes) picks ≡ loaded
+  ends-loaded picks on full =
+      ending.one_end memory_ops network (held_at images) Anything (unsent network []) [] (record plan { sends = bytes }) (reset_board powers bytes)
+      picks begins root all-come on (full ∙ sym all)
+
+  loads : Loads network images powers bytes (load_steps images nodes)
+  loads =
+      record {
+        live = record {
+          rest = λ picks on. subst (λ x. Rests (begun network images powers bytes) picks ↔ (length picks ≡ x)) all
+              (ending.rests memory_ops network (held_at images) Anything (unsent network []) [] (record plan { sends = bytes })
+              (reset_board powers bytes) picks begins root all-come on);
+          loaded = λ picks on full. subst (λ s. IsLoaded (λ m. m) s (targets_of images)) (sym (ends-loaded picks on full)) is-loaded;
+          one = λ picks others on other full others_full. ends-loaded picks on full ∙ sym (ends-loaded others other others_full);
+        };
+        tidy = λ picks on full p a inside low out.
+            ap (λ s. slice_index (memory_at s p) (a - most_neg)) (ends-loaded picks on full)
+            ∙ untouched p (omega (arith, inside, are.count)) a low out;
+        safe = safe;
+      }
 
 -- the loading theorem
-pub boots : Boots
-boots network nodes images powers pairing tree whole are sized = (
-  loaded network nodes images powers pairing tree whole are sized,
-  (
-    loaded-with network nodes images powers pairing tree whole are sized,
-    λ picks on. loads network nodes images powers pairing tree whole are sized picks on,
-  ),
-)
+pub boots : Loading
+boots network nodes images pairing tree whole are powers sized = loads network nodes images powers pairing tree whole are sized

@@ -1,7 +1,7 @@
 -- The plan of a load tree fits together: after power-up the network is under way in it, and it has as many
 -- picks as the tree has steps.
 use Rattle.std.proofs.Common.{◌≡◌, ℕ, zero, suc, ◌+◌, ◌*◌, ◌<◌, ◌≤◌, Bool, true, false, List, [], ◌∷◌, ◌++◌, length, map, get_or, replicate}
-use Rattle.std.proofs.Common.{Option, Some, None, refl, sym, ap, ◌∙◌, subst, arith, append-nil}
+use Rattle.std.proofs.Common.{Option, Some, None, refl, sym, ap, ◌∙◌, subst, arith, append-nil, length-append}
 use Rattle.std.specs.Prelude.{is_some, slice_get, slice_index_or, option_map}
 use Rattle.std.proofs.lemmas.List.{length-map, length-replicate}
 use Rattle.std.proofs.lemmas.Option.{slice_get-map, slice_get-get_or}
@@ -25,7 +25,7 @@ use Rattle.tn_load.specs.UnderWay.{IsUnderWay}
 use Rattle.tn_load.specs.Keep.{UnderWay, IsRooted}
 use Rattle.tn_load.specs.Inner.Lives.{acts_at}
 use Rattle.tn_load.specs.Boots.{no_power, power_at}
-use Rattle.tn_load.specs.Inner.Loadings.{place_of, IsLoading}
+use Rattle.tn_load.specs.Inner.Loadings.{from_host, unsent, place_of, IsLoading}
 use Rattle.tn_load.proofs.Answered.{settled-life, settled-waits}
 use Rattle.tn_load.proofs.Counting.{total, total-same, sums-once}
 use Rattle.tn_load.proofs.TreeCounts.{all-picks}
@@ -48,15 +48,13 @@ link_first : (p l q m : ℕ) → Link p l ≡ Link q m → p ≡ q
 link_first p l q m e = cc
 
 module _ (network : NetworkState) (nodes : List LoadNode) (images : List ImageBytes) (powers : List PowerState) (holds : HoldState)
-    (h : IsLoading network nodes images powers holds) where
-  abbrev plan : Plan (NodeState (List ℕ))
-  plan = tree_plan network nodes images powers holds h
-
-  abbrev bytes : List ℕ
-  bytes = stream (whole_branch images nodes)
+    (h : IsLoading network nodes images powers holds) (held rest : List ℕ) (cut : stream (whole_branch images nodes) ≡ held ++ rest) where
+  -- the host holds the beginning of the stream
+  abbrev pub plan : Plan (NodeState (List ℕ))
+  plan = record (tree_plan network nodes images powers holds h) { sends = held }
 
   abbrev board : BoardState (NodeState (List ℕ))
-  board = reset_board powers bytes
+  board = reset_board powers held
 
   count-powers : length powers ≡ length network.sizes
   count-powers = sym (length-map powers (λ power. length power.bytes)) ∙ ap length h.sized
@@ -79,19 +77,20 @@ module _ (network : NetworkState) (nodes : List LoadNode) (images : List ImageBy
   latch-first (Link p l) = latches_empty (4 * length board.nodes) (4 * p + l)
 
   wires-first : (e : Far) → IsWireEnd network e
-      → incoming plan e ≡ bytes_in (latch_of board e) ++ (outgoing plan (other_end network e) ++ [])
+      → incoming plan e ≡ bytes_in (latch_of board e) ++ (outgoing plan (other_end network e) ++ unsent network rest e)
   unfolding tree_plan
-  wires-first e end = go e end ∙ ap (λ x. bytes_in x ++ (outgoing plan (other_end network e) ++ [])) (sym (latch-first e))
+  wires-first e end = go e end ∙ ap (λ x. bytes_in x ++ (outgoing plan (other_end network e) ++ unsent network rest e)) (sym (latch-first e))
     where
-      sent : (f : Far) → from_far network nodes images powers holds h bytes f ≡ outgoing plan f
+      sent : (f : Far)
+          → from_far network nodes images powers holds h (stream (whole_branch images nodes)) f ≡ outgoing plan f ++ from_host rest f
       sent Nothing = refl
-      sent Host = refl
-      sent (Link q m) = refl
+      sent Host = cut
+      sent (Link q m) = sym (append-nil _)
 
-      go : (e : Far) → IsWireEnd network e → incoming plan e ≡ outgoing plan (other_end network e) ++ []
+      go : (e : Far) → IsWireEnd network e → incoming plan e ≡ outgoing plan (other_end network e) ++ unsent network rest e
       go Nothing end = refl
       go Host end = sym (append-nil _ ∙ host-gets network nodes images powers holds h)
-      go (Link p l) end = carried network nodes images powers holds h p l end ∙ (sent (far_at network p l) ∙ sym (append-nil _))
+      go (Link p l) end = carried network nodes images powers holds h p l end ∙ sent (far_at network p l)
 
   full-first : (e : Far) → IsWireEnd network e → is_some (latch_of board e) ≡ waiting plan (other_end network e)
   unfolding tree_plan
@@ -113,7 +112,7 @@ module _ (network : NetworkState) (nodes : List LoadNode) (images : List ImageBy
       go (Link p l) end = far p l end (far_at network p l) refl
 
   -- after power-up the network is under way
-  pub under-way : IsUnderWay memory_ops network holds (Facts network nodes images powers holds h) (λ e. []) [] plan board
+  pub under-way : IsUnderWay memory_ops network holds (Facts network nodes images powers holds h) (unsent network rest) [] plan board
   unfolding tree_plan
   under-way =
       record {
@@ -132,8 +131,8 @@ module _ (network : NetworkState) (nodes : List LoadNode) (images : List ImageBy
         room = omega arith;
       }
 
-  -- and the picks that are left are the steps of the load
-  pub picks-first : picks_left (length network.sizes) plan ≡ load_steps images nodes
+  -- and the picks that are left are the steps of the load, but for the bytes that the host lacks
+  pub picks-first : picks_left (length network.sizes) plan + length rest ≡ load_steps images nodes
   unfolding tree_plan
   picks-first =
       let own : total (λ p. weight (acts_left (plan.courses p))) (length network.sizes)
@@ -151,10 +150,11 @@ module _ (network : NetworkState) (nodes : List LoadNode) (images : List ImageBy
       (length nodes)
       (λ k inside. ap (λ j. weight (acts_at images nodes j)) (place-is network nodes h.pairing h.tree h.whole k inside)) in
       let all = all-picks images nodes (length network.sizes) h.whole in
-      omega (arith, own, once, places, all)
+      let sizes = ap length cut ∙ length-append held rest in
+      omega (arith, own, once, places, all, sizes)
 
   -- nothing being asked of the nodes
-  pub goes-under : UnderWay memory_ops network holds (λ e. []) [] plan board
+  pub goes-under : UnderWay memory_ops network holds (unsent network rest) [] plan board
   goes-under =
       let u = under-way in
       record {

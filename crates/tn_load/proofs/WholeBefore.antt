@@ -25,7 +25,7 @@ use Rattle.tn_load.specs.Shares.{taken_by, latch_of, bytes_in, outgoing, waiting
 use Rattle.tn_load.specs.Keep.{UnderWay}
 use Rattle.tn_load.specs.Inner.NodeActs.{Holds}
 use Rattle.tn_load.specs.Boots.{image_at}
-use Rattle.tn_load.specs.Inner.Loadings.{place_of, IsLoading}
+use Rattle.tn_load.specs.Inner.Loadings.{from_host, unsent, place_of, IsLoading}
 use Rattle.tn_load.proofs.Lives.{Whole, start-some}
 use Rattle.tn_load.proofs.Along.{IsAlong, waits, last_count, last_parts}
 use Rattle.tn_load.proofs.LoneNodes.{StandsLast}
@@ -47,11 +47,14 @@ one_waiting None left l is = rw (← is) refl
 one_waiting (Some byte) left l is = rw (← is) refl
 
 module _ (network : NetworkState) (nodes : List LoadNode) (images : List ImageBytes) (powers : List PowerState) (holds : HoldState)
-    (h : IsLoading network nodes images powers holds) (picks : List Pick) (s : BoardState (NodeState (List ℕ)))
-    (u : UnderWay memory_ops network holds (λ e. []) []
-    (plan_behind network picks (tree_plan network nodes images powers holds h)) s) where
+    (h : IsLoading network nodes images powers holds) (held rest : List ℕ) (picks : List Pick) (s : BoardState (NodeState (List ℕ)))
+    (u : UnderWay memory_ops network holds (unsent network rest) []
+    (plan_behind network picks (record (tree_plan network nodes images powers holds h) { sends = held })) s) where
+  abbrev first_plan : Plan (NodeState (List ℕ))
+  first_plan = record (tree_plan network nodes images powers holds h) { sends = held }
+
   abbrev plan : Plan (NodeState (List ℕ))
-  plan = plan_behind network picks (tree_plan network nodes images powers holds h)
+  plan = plan_behind network picks first_plan
 
   abbrev left : ℕ → List Act
   left p = acts_left (plan.courses p)
@@ -60,12 +63,12 @@ module _ (network : NetworkState) (nodes : List LoadNode) (images : List ImageBy
   boot-is : (p : ℕ) → p < length network.sizes → (plan.courses p).boot ≡ (node_at nodes (place_of nodes p)).boot_link
   boot-is p inside =
       behind-kept (λ q (c : Course (NodeState (List ℕ))). c.boot ≡ (node_at nodes (place_of nodes q)).boot_link) (λ q c is. is) network picks
-      (tree_plan network nodes images powers holds h) p (planned network nodes images powers holds h p inside).boot
+      first_plan p (planned network nodes images powers holds h p inside).boot
 
   facts : (p : ℕ) → p < length network.sizes → Facts network nodes images powers holds h p (now (plan.courses p)) (left p)
   facts p inside =
       let course = behind-kept (IsCourse memory_ops holds (Facts network nodes images powers holds h))
-      (course-goes memory_ops holds (Facts network nodes images powers holds h)) network picks (tree_plan network nodes images powers holds h) p
+      (course-goes memory_ops holds (Facts network nodes images powers holds h)) network picks first_plan p
       (planned network nodes images powers holds h p inside).course in
       fact_now memory_ops (record { holds = holds; processor = p; boot = (plan.courses p).boot }) (Facts network nodes images powers holds h p)
       (plan.courses p).moments (plan.courses p).end course.follow
@@ -105,7 +108,7 @@ module _ (network : NetworkState) (nodes : List LoadNode) (images : List ImageBy
       let latch = latch_of s (Link (at k) boot) in
       let one = one_waiting latch (left (at up.parent)) (node_at nodes k).parent_link full in
       let sent : takes_of (left (at k)) ≡ bytes_in latch ++ sends_of (node_at nodes k).parent_link (left (at up.parent)) =
-      sym gets ∙ (bytes ∙ (ap (λ f. bytes_in latch ++ (outgoing plan f ++ [])) up.far
+      sym gets ∙ (bytes ∙ (ap (λ f. bytes_in latch ++ (outgoing plan f ++ from_host rest f)) up.far
       ∙ ap (λ xs. bytes_in latch ++ xs) (append-nil (sends_of (node_at nodes k).parent_link (left (at up.parent)))))) in
       ap length sent ∙ (length-append (bytes_in latch) (sends_of (node_at nodes k).parent_link (left (at up.parent)))
       ∙ ap (λ n. n + length (sends_of (node_at nodes k).parent_link (left (at up.parent)))) one)

@@ -1,6 +1,5 @@
--- The loading theorem: in every order of steps the stream brings a network from power-up to rest after
--- exactly its number of steps, and then all of it is loaded.
-use Rattle.std.specs.Prelude.{◌≡◌, ℕ, ◌+◌, ◌-◌, ◌<◌, ◌≤◌, ◌⊎◌, ◌↔◌, true, false, List, [], map, length, All, Some, slice_get, slice_index, slice_index_or}
+-- Boots: a stream loads a network, whatever the memories held and in whatever order the steps come.
+use Rattle.std.specs.Prelude.{◌≡◌, ◌↔◌, ◌⊎◌, ℕ, ◌-◌, ◌<◌, ◌≤◌, true, false, List, [], ◌++◌, map, length, All, slice_index, slice_index_or}
 use Rattle.tn_word.specs.Words.{most_neg, load_base}
 use Rattle.tn_net.specs.Networks.{NetworkState, IsPairing}
 use Rattle.tn_net.specs.Trees.{LoadNode, IsLoadTree}
@@ -14,10 +13,11 @@ use Rattle.tn_node.specs.Nodes.{NodeState}
 use Rattle.tn_network.specs.declared.picks.Pick.{Pick}
 use Rattle.tn_network.specs.Boards.{BoardState, at_node}
 use Rattle.tn_network.specs.Holds.{HoldState, entry_of}
+use Rattle.tn_network.specs.NodeOps.{stands_at}
 use Rattle.tn_network.specs.Loads.{StandsIn, IsLoaded}
-use Rattle.tn_network.specs.Nets.{memory_ops}
+use Rattle.tn_network.specs.Nets.{NetState, memory_ops}
 use Rattle.tn_network.specs.PickLists.{AreEnabled, after, AtRest}
-use Rattle.tn_network.specs.Resets.{PowerState, AreSized, reset_board}
+use Rattle.tn_network.specs.Resets.{PowerState, AreSized, reset_net}
 use Rattle.tn_load.specs.Targets.{placed_all, targets_of}
 
 -- the image of a processor, and what its memory held at power-up
@@ -30,65 +30,86 @@ no_power = record { bytes = []; error = false; halt = false }
 abbrev pub power_at : List PowerState → ℕ → PowerState
 power_at powers p = slice_index_or powers p no_power
 
--- ---- what is loaded
-
 -- an image for each processor of a network, which its memory can hold beside the loader
 pub record AreFor (network : NetworkState) (images : List ImageBytes) : Type 0 where
   pub count : length images ≡ length network.sizes
   pub segments : AreImages images
   pub plain : (p : ℕ) → p < length network.sizes → IsPlain (slice_index network.sizes p) (image_at images p)
 
--- the processors are held at the entries of their images
+-- ---- runs of a network
+
+-- the network after power-up: every processor in reset, the host with bytes to send, and each processor to
+-- be held at its entry
+abbrev pub entries_of : List ImageBytes → List ℕ
+entries_of images = map (λ image. image.entry) images
+
 abbrev pub held_at : List ImageBytes → HoldState
-held_at images = record { entries = map (λ i. i.entry) images; held = true }
+held_at images = record { entries = entries_of images; held = true }
 
--- the network after power-up, with the stream to come from the host
-abbrev pub begun : List LoadNode → List ImageBytes → List PowerState → BoardState (NodeState (List ℕ))
-begun nodes images powers = reset_board powers (stream (whole_branch images nodes))
+abbrev pub begun : NetworkState → List ImageBytes → List PowerState → List ℕ → NetState
+begun network images powers bytes = reset_net network powers bytes (entries_of images)
 
--- ---- what comes of it
+-- each pick is enabled when it comes
+abbrev pub Runs : NetState → List Pick → Type 0
+Runs n picks = AreEnabled memory_ops n.board.network n.holds n.board.state picks
+
+-- the state behind the picks, and that no pick is enabled there
+abbrev pub state_behind : NetState → List Pick → BoardState (NodeState (List ℕ))
+state_behind n picks = after memory_ops n.board.network n.board.state picks
+
+abbrev pub Rests : NetState → List Pick → Type 0
+Rests n picks = AtRest memory_ops n.board.network n.holds (state_behind n picks)
+
+-- ---- the claim
+
+-- Loading ends: picks in any order end at rest exactly where they are so many; then all is loaded, and the
+-- state is one and the same.
+pub record IsLive (n : NetState) (images : List ImageBytes) (steps : ℕ) : Type 0 where
+  pub rest : (picks : List Pick) → Runs n picks → Rests n picks ↔ (length picks ≡ steps)
+  pub loaded :
+      (picks : List Pick) → Runs n picks → length picks ≡ steps → IsLoaded (λ memory. memory) (state_behind n picks) (targets_of images)
+  pub one :
+      (picks others : List Pick) → Runs n picks → Runs n others → length picks ≡ steps → length others ≡ steps
+      → state_behind n picks ≡ state_behind n others
 
 -- an address is in none of some segments
 abbrev pub IsOutside : ℕ → List SegmentBytes → Type 0
-IsOutside a segments = All (λ s. (a < s.base) ⊎ (end s ≤ a)) segments
+IsOutside address segments = All (λ s. (address < s.base) ⊎ (end s ≤ address)) segments
 
--- from LOAD_BASE on, what is in no segment of an image is as it was at power-up
-pub record IsUntouched (image : ImageBytes) (first memory : List ℕ) : Type 0 where
-  pub size : length memory ≡ length first
-  pub bytes : (a : ℕ) → load_base ≤ a → IsOutside a image.segments → slice_index memory (a - most_neg) ≡ slice_index first (a - most_neg)
+-- the memory of a processor
+abbrev pub memory_at : BoardState (NodeState (List ℕ)) → ℕ → List ℕ
+memory_at s p = at_node [] (λ node. node.cpu.memory) s.nodes p
 
--- the network is loaded, the host got nothing, and the rest of each memory is as it was
-pub record IsLoadedWith (network : NetworkState) (images : List ImageBytes) (powers : List PowerState) (s : BoardState (NodeState (List ℕ))) : Type 0 where
-  pub loaded : IsLoaded (λ m. m) s (targets_of images)
-  pub kept : s.host.kept ≡ []
-  pub rest :
-      (p : ℕ) (n : NodeState (List ℕ)) → slice_get s.nodes p ≡ Some n
-      → IsUntouched (image_at images p) (power_at powers p).bytes n.cpu.memory
+-- Loading is tidy: from LOAD_BASE on, what is outside the segments of the images is then as at power-up.
+abbrev pub IsTidy : NetState → List ImageBytes → List PowerState → ℕ → Type 0
+IsTidy n images powers steps =
+    (picks : List Pick) → Runs n picks → length picks ≡ steps → (p address : ℕ) → p < length images → load_base ≤ address
+    → IsOutside address (image_at images p).segments
+    → slice_index (memory_at (state_behind n picks) p) (address - most_neg) ≡ slice_index (power_at powers p).bytes (address - most_neg)
 
--- where any processor stands at its entry, the image of every one is whole in its memory
-abbrev pub AreWholeFirst : List ImageBytes → BoardState (NodeState (List ℕ)) → Type 0
-AreWholeFirst images s =
-    (p : ℕ) → at_node false (memory_ops.stands (entry_of (held_at images) p)) s.nodes p ≡ true
-    → (q : ℕ) (n : NodeState (List ℕ)) → slice_get s.nodes q ≡ Some n → All (StandsIn n.cpu.memory) (placed_all (image_at images q).segments)
+-- Loading is safe: picks in any order are at most so many, and whenever a processor stands at its entry, the
+-- image of every processor is whole.
+pub record IsSafe (n : NetState) (images : List ImageBytes) (steps : ℕ) : Type 0 where
+  pub bound : (picks : List Pick) → Runs n picks → length picks ≤ steps
+  pub whole :
+      (picks : List Pick) → Runs n picks → (p q : ℕ) → p < length images → q < length images
+      → at_node false (λ node. stands_at (entry_of n.holds p) node) (state_behind n picks).nodes p ≡ true
+      → All (StandsIn (memory_at (state_behind n picks) q)) (placed_all (image_at images q).segments)
 
--- What holds behind picks that were each enabled when they came: they are no more than the steps of the
--- load, at rest exactly when they are as many, and then the network is in one state whatever their order;
--- and on the way no processor starts before all are loaded.
-pub record Loads (network : NetworkState) (nodes : List LoadNode) (images : List ImageBytes) (powers : List PowerState)
-    (loaded : BoardState (NodeState (List ℕ))) (picks : List Pick) : Type 0 where
-  pub bound : length picks ≤ load_steps images nodes
-  pub rest :
-      AtRest memory_ops network (held_at images) (after memory_ops network (begun nodes images powers) picks)
-      ↔ (length picks ≡ load_steps images nodes)
-  pub one : length picks ≡ load_steps images nodes → after memory_ops network (begun nodes images powers) picks ≡ loaded
-  pub whole : AreWholeFirst images (after memory_ops network (begun nodes images powers) picks)
+-- A stream loads a network in so many steps, and any beginning of it is safe, whatever the memories, Error
+-- and HaltOnError are at power-up.
+pub record Loads (network : NetworkState) (images : List ImageBytes) (powers : List PowerState) (bytes : List ℕ) (steps : ℕ) : Type 0 where
+  pub live : IsLive (begun network images powers bytes) images steps
+  pub tidy : IsTidy (begun network images powers bytes) images powers steps
+  pub safe : (held rest : List ℕ) → bytes ≡ held ++ rest → IsSafe (begun network images powers held) images steps
 
--- For every network, its load tree, and images for its processors, and whatever the memories, Error and
--- HaltOnError are at power-up, there is one loaded state in which picks in any order end.
-abbrev pub Boots : Type 0
-Boots =
-    (network : NetworkState) (nodes : List LoadNode) (images : List ImageBytes) (powers : List PowerState)
-    → IsPairing network → IsLoadTree network nodes → IsWholeTree nodes (length network.sizes) → AreFor network images → AreSized powers network
-    → (loaded : BoardState (NodeState (List ℕ))) × (IsLoadedWith network images powers loaded
-    × ((picks : List Pick) → AreEnabled memory_ops network (held_at images) (begun nodes images powers) picks
-    → Loads network nodes images powers loaded picks))
+abbrev pub Boots : NetworkState → List ImageBytes → List ℕ → ℕ → Type 0
+Boots network images bytes steps = (powers : List PowerState) → AreSized powers network → Loads network images powers bytes steps
+
+-- The loading theorem: the stream of the load tree of any network, and of any plain images for it, loads
+-- the network, in the number of steps that the tree tells.
+abbrev pub Loading : Type 0
+Loading =
+    (network : NetworkState) (nodes : List LoadNode) (images : List ImageBytes) → IsPairing network → IsLoadTree network nodes
+    → IsWholeTree nodes (length network.sizes) → AreFor network images
+    → Boots network images (stream (whole_branch images nodes)) (load_steps images nodes)
