@@ -104,3 +104,113 @@ at-waits : {N : Type 0} (far : Far) (plan : Plan N) → far ≢ Host → (advanc
 at-waits Nothing plan apart = refl
 at-waits Host plan apart = absurd (apart refl)
 at-waits (Link q m) plan apart = refl
+
+-- ---- a change of the one place is known by what it makes there
+
+changed-alike : {N : Type 0} (f g : N → N) (nodes : List N) (p : ℕ) (n : N) → slice_get nodes p ≡ Some n → f n ≡ g n
+    → changed f nodes p ≡ changed g nodes p
+changed-alike f g nodes p n at alike =
+    changed-set f nodes p n at ∙ ap (λ m. slice_set nodes p m) alike ∙ sym (changed-set g nodes p n at)
+
+module _ {N : Type 0} (ops : NodeOps N) (network : NetworkState) (holds : HoldState) (Q : ℕ → N → List Act → Type 0)
+    (missing : Far → List ℕ) (kept : List ℕ) (plan : Plan N) (s : BoardState N) (u : IsUnderWay ops network holds Q missing kept plan s) where
+  -- ---- the pick that an act of a processor is
+
+  acks_pick : Far → Pick
+  acks_pick Nothing = HostTake
+  acks_pick Host = HostTake
+  acks_pick (Link p l) = Take p l
+
+  pick_of : ℕ → Act → Pick
+  pick_of q Step = Proc q false 0
+  pick_of q (Takes b) = Take q (plan.courses q).boot
+  pick_of q (Sends l b) = Send q l
+  pick_of q (Acks m) = acks_pick (far_at network q m)
+
+  record Touches (pick : Pick) (q : ℕ) : Type 0 where
+    act : Act
+    is : acts_left (plan.courses q) ≡ act ∷ acts_left (behind (plan.courses q))
+    same : step ops network pick s ≡ step ops network (pick_of q act) s
+
+  same-touch : (one two : Pick) (q : ℕ) → Touches one q → Touches two q → step ops network one s ≡ step ops network two s
+  same-touch one two q a b =
+      let acts : a.act ≡ b.act = first_same a.act b.act (acts_left (behind (plan.courses q))) (sym a.is ∙ b.is) in
+      a.same ∙ ap (λ x. step ops network (pick_of q x) s) acts ∙ sym b.same
+    where
+      first_same : (x y : Act) (rest : List Act) → x ∷ rest ≡ y ∷ rest → x ≡ y
+      first_same x y rest e = cc
+
+  abbrev Touch : Pick → ℕ → Type 0
+  Touch pick q = ((plan_after network pick plan).courses q ≡ plan.courses q) ⊎ Touches pick q
+
+  touch-taken : (p l q : ℕ) → Taking ops network holds Q missing kept plan s u p l → (far : Far) → far_at network p l ≡ far → q ≢ p
+      → ((advanced_at far (record plan { courses = advanced p plan.courses })).courses q ≡ plan.courses q) ⊎ Touches (Take p l) q
+  unfolding pick_of acks_pick
+  touch-taken p l q h Nothing is apart = inl (advanced-other p plan.courses q apart)
+  touch-taken p l q h Host is apart = inl (advanced-other p plan.courses q apart)
+  touch-taken p l q h (Link r m) is apart = elim (cases_eq q r) [
+    | inl e ↦ inr
+        (let end = u.pairing.ends p l r m (record { processor = h.inside; link = h.low }) is in
+        let back : far_at network r m ≡ Link p l = u.pairing.ways p l r m (record { processor = h.inside; link = h.low }) is in
+        let waits : is_waiting m (acts_left (plan.courses r)) ≡ true = ap (waiting plan) (sym is) ∙ h.sender in
+        let g : Goes ops holds Q r (plan.courses r) (Acks m) =
+        goes-acknowledge ops holds Q r (plan.courses r) (u.courses r end.processor) m waits in
+        subst (λ k. Touches (Take p l) k) (sym e)
+        (record { act = Acks m; is = g.is; same = ap (λ f. step ops network (acks_pick f) s) (sym back) }))
+    | inr other ↦ inl (advanced-other r (advanced p plan.courses) q other ∙ advanced-other p plan.courses q apart)
+  ]
+
+  touch : (pick : Pick) → enabled ops network holds s pick ≡ true → (q : ℕ) → Touch pick q
+  unfolding pick_of acks_pick
+  touch HostSend on q = inl refl
+  touch HostTake on q = elim (cases_eq q network.root) [
+    | inl e ↦ inr
+        (let h : HostTaking ops network holds Q missing kept plan s u = host_take-goes ops network holds Q missing kept plan s u on in
+        subst (λ k. Touches HostTake k) (sym e)
+        (record { act = Acks network.root_link; is = h.goes.is; same = ap (λ f. step ops network (acks_pick f) s) (sym u.pairing.hosted) }))
+    | inr apart ↦ inl (advanced-other network.root plan.courses q apart)
+  ]
+  touch (Proc p slice clock) on q = elim (cases_eq q p) [
+    | inl e ↦ inr
+        (let h = step-goes ops network holds Q missing kept plan s u p clock slice on in
+        let alike : changed (ops.run p slice clock) s.nodes p ≡ changed (ops.run p false 0) s.nodes p =
+        changed-alike (ops.run p slice clock) (ops.run p false 0) s.nodes p (now (plan.courses p)) (u.nodes p h.0)
+        (h.1.does.1 slice clock ∙ sym (h.1.does.1 false 0)) in
+        subst (λ k. Touches (Proc p slice clock) k) (sym e)
+        (record { act = Step; is = h.1.is; same = ap (λ nodes. record s { nodes = nodes }) alike }))
+    | inr apart ↦ inl (advanced-other p plan.courses q apart)
+  ]
+  touch (Send p l) on q = elim (cases_eq q p) [
+    | inl e ↦ inr
+        (let h : Sending ops network holds Q missing kept plan s u p l = send-goes ops network holds Q missing kept plan s u p l on in
+        subst (λ k. Touches (Send p l) k) (sym e) (record { act = Sends l h.byte; is = h.goes.is; same = refl }))
+    | inr apart ↦ inl (advanced-other p plan.courses q apart)
+  ]
+  touch (Take p l) on q = elim (cases_eq q p) [
+    | inl e ↦ inr
+        (let h : Taking ops network holds Q missing kept plan s u p l = take-goes ops network holds Q missing kept plan s u p l on in
+        subst (λ k. Touches (Take p l) k) (sym e)
+        (record { act = Takes h.byte; is = h.goes.is; same = ap (λ k. step ops network (Take p k) s) h.boots }))
+    | inr apart ↦ touch-taken p l q (take-goes ops network holds Q missing kept plan s u p l on) (far_at network p l) refl apart
+  ]
+
+  -- ---- what a pick rests on, where another leaves it as it was
+
+  module _ (first : Pick) (first_on : enabled ops network holds s first ≡ true) where
+    abbrev new : Plan N
+    new = plan_after network first plan
+
+    abbrev t : BoardState N
+    t = step ops network first s
+
+    v : IsUnderWay ops network holds Q missing kept new t
+    v = keeps-on ops network holds Q missing kept plan s u first first_on
+
+    abbrev Same_step : Pick → Type 0
+    Same_step second = step ops network first s ≡ step ops network second s
+
+    abbrev Result : Pick → Type 0
+    Result second = Same_step second ⊎ (enabled ops network holds t second ≡ true)
+
+    moved : (p : ℕ) (act : Act) → new.courses p ≡ plan.courses p → Goes ops holds Q p (plan.courses p) act → Goes ops holds Q p (new.courses p) act
+    moved p act same g = subst (λ c. Goes ops holds Q p c act) (sym same) g
