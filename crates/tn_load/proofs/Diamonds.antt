@@ -25,6 +25,7 @@ use Rattle.tn_load.proofs.Taking.{Taking, take-goes}
 use Rattle.tn_load.proofs.Hosting.{HostSending, host_send-goes, HostTaking, host_take-goes}
 use Rattle.tn_load.proofs.Enabling.{step-enabled, send-enabled, take-enabled, host_send-enabled, host_take-enabled}
 use Rattle.tn_load.proofs.Keeping.{keeps-on}
+use Rattle.tn_load.proofs.Latches.{cases_far}
 use Rattle.tn_load.proofs.Sameness.{SamePlan, same-state}
 
 -- ---- plans, whatever the order
@@ -194,6 +195,84 @@ module _ {N : Type 0} (ops : NodeOps N) (network : NetworkState) (holds : HoldSt
     | inr apart ↦ touch-taken p l q (take-goes ops network holds Q missing kept plan s u p l on) (far_at network p l) refl apart
   ]
 
+  -- ---- what the picks themselves touch
+
+  own-step : (p clock : ℕ) (slice : Bool) → enabled ops network holds s (Proc p slice clock) ≡ true → Touches (Proc p slice clock) p
+  unfolding pick_of
+  own-step p clock slice on =
+      let h = step-goes ops network holds Q missing kept plan s u p clock slice on in
+      let alike : changed (ops.run p slice clock) s.nodes p ≡ changed (ops.run p false 0) s.nodes p =
+      changed-alike (ops.run p slice clock) (ops.run p false 0) s.nodes p (now (plan.courses p)) (u.nodes p h.0)
+      (h.1.does.1 slice clock ∙ sym (h.1.does.1 false 0)) in
+      record { act = Step; is = h.1.is; same = ap (λ nodes. record s { nodes = nodes }) alike }
+
+  own-send : (p l : ℕ) → Sending ops network holds Q missing kept plan s u p l → Touches (Send p l) p
+  unfolding pick_of
+  own-send p l h = record { act = Sends l h.byte; is = h.goes.is; same = refl }
+
+  own-take : (p l : ℕ) → Taking ops network holds Q missing kept plan s u p l → Touches (Take p l) p
+  unfolding pick_of
+  own-take p l h = record { act = Takes h.byte; is = h.goes.is; same = ap (λ k. step ops network (Take p k) s) h.boots }
+
+  own-sender : (p l r m : ℕ) → Taking ops network holds Q missing kept plan s u p l → far_at network p l ≡ Link r m → Touches (Take p l) r
+  unfolding pick_of acks_pick
+  own-sender p l r m h is =
+      let end = u.pairing.ends p l r m (record { processor = h.inside; link = h.low }) is in
+      let back : far_at network r m ≡ Link p l = u.pairing.ways p l r m (record { processor = h.inside; link = h.low }) is in
+      let waits : is_waiting m (acts_left (plan.courses r)) ≡ true = ap (waiting plan) (sym is) ∙ h.sender in
+      let g : Goes ops holds Q r (plan.courses r) (Acks m) =
+      goes-acknowledge ops holds Q r (plan.courses r) (u.courses r end.processor) m waits in
+      record { act = Acks m; is = g.is; same = ap (λ f. step ops network (acks_pick f) s) (sym back) }
+
+  own-root : HostTaking ops network holds Q missing kept plan s u → Touches HostTake network.root
+  unfolding pick_of acks_pick
+  own-root h =
+      record { act = Acks network.root_link; is = h.goes.is; same = ap (λ f. step ops network (acks_pick f) s) (sym u.pairing.hosted) }
+
+  -- ---- the host's parts
+
+  abbrev Alike : Pick → Pick → Type 0
+  Alike one two = step ops network one s ≡ step ops network two s
+
+  true_false : (x : Bool) → x ≡ true → x ≡ false → ⊥
+  true_false x a b = cc
+
+  sends-part : (one : Pick) → enabled ops network holds s one ≡ true → HostSending ops network holds Q missing kept plan s u
+      → Alike one HostSend ⊎ (((plan_after network one plan).sends ≡ plan.sends) × ((plan_after network one plan).waits ≡ plan.waits))
+  sends-part HostSend on h = inl refl
+  sends-part HostTake on h = inr (refl, refl)
+  sends-part (Proc p slice clock) on h = inr (refl, refl)
+  sends-part (Send p l) on h = inr (refl, refl)
+  sends-part (Take p l) on h =
+      let k : Taking ops network holds Q missing kept plan s u p l = take-goes ops network holds Q missing kept plan s u p l on in
+      let apart : far_at network p l ≢ Host = λ is. true_false plan.waits (ap (waiting plan) (sym is) ∙ k.sender) h.free in
+      inr (at-sends (far_at network p l) (record plan { courses = advanced p plan.courses }),
+      at-waits (far_at network p l) (record plan { courses = advanced p plan.courses }) apart)
+
+  waits-part : (one : Pick) → enabled ops network holds s one ≡ true → (p l : ℕ) → Taking ops network holds Q missing kept plan s u p l
+      → far_at network p l ≡ Host → Alike one (Take p l) ⊎ ((plan_after network one plan).waits ≡ plan.waits)
+  waits-part HostSend on p l k is =
+      let h : HostSending ops network holds Q missing kept plan s u = host_send-goes ops network holds Q missing kept plan s u on in
+      absurd (true_false plan.waits (ap (waiting plan) (sym is) ∙ k.sender) h.free)
+  waits-part HostTake on p l k is = inr refl
+  waits-part (Proc q slice clock) on p l k is = inr refl
+  waits-part (Send q m) on p l k is = inr refl
+  waits-part (Take q m) on p l k is = elim (cases_far (far_at network q m) Host) [
+    | inl e ↦ inl
+        (let j : Taking ops network holds Q missing kept plan s u q m = take-goes ops network holds Q missing kept plan s u q m on in
+        let here = u.pairing.once p l (record { processor = k.inside; link = k.low }) is in
+        let there = u.pairing.once q m (record { processor = j.inside; link = j.low }) e in
+        ap (λ x. step ops network (Take x m) s) (there.0 ∙ sym here.0) ∙ ap (λ x. step ops network (Take p x) s) (there.1 ∙ sym here.1))
+    | inr apart ↦ inr (at-waits (far_at network q m) (record plan { courses = advanced q plan.courses }) apart)
+  ]
+
+  keeps-part : (one : Pick) → Alike one HostTake ⊎ ((plan_after network one plan).keeps ≡ plan.keeps)
+  keeps-part HostSend = inr refl
+  keeps-part HostTake = inl refl
+  keeps-part (Proc p slice clock) = inr refl
+  keeps-part (Send p l) = inr refl
+  keeps-part (Take p l) = inr (at-keeps (far_at network p l) (record plan { courses = advanced p plan.courses }))
+
   -- ---- what a pick rests on, where another leaves it as it was
 
   module _ (first : Pick) (first_on : enabled ops network holds s first ≡ true) where
@@ -206,11 +285,72 @@ module _ {N : Type 0} (ops : NodeOps N) (network : NetworkState) (holds : HoldSt
     v : IsUnderWay ops network holds Q missing kept new t
     v = keeps-on ops network holds Q missing kept plan s u first first_on
 
-    abbrev Same_step : Pick → Type 0
-    Same_step second = step ops network first s ≡ step ops network second s
-
     abbrev Result : Pick → Type 0
-    Result second = Same_step second ⊎ (enabled ops network holds t second ≡ true)
+    Result second = Alike first second ⊎ (enabled ops network holds t second ≡ true)
 
     moved : (p : ℕ) (act : Act) → new.courses p ≡ plan.courses p → Goes ops holds Q p (plan.courses p) act → Goes ops holds Q p (new.courses p) act
     moved p act same g = subst (λ c. Goes ops holds Q p c act) (sym same) g
+
+    word : (clock : ℕ) → nat_lt clock (2 ^ 32) ≡ true → clock < 2 ^ 32
+    word clock h = grind (arith, nat_tests)
+
+    take-again : (p l : ℕ) (h : Taking ops network holds Q missing kept plan s u p l) → new.courses p ≡ plan.courses p
+        → waiting new (far_at network p l) ≡ waiting plan (far_at network p l) → enabled ops network holds t (Take p l) ≡ true
+    take-again p l h same waits =
+        take-enabled ops network holds Q missing kept new t v p l h.byte h.inside (h.boots ∙ ap (λ c. c.boot) (sym same))
+        (moved p (Takes h.byte) same h.goes)
+        (v.full (Link p l) (record { processor = h.inside; link = h.low }) ∙ waits ∙ h.sender)
+
+    take-far : (p l : ℕ) (h : Taking ops network holds Q missing kept plan s u p l) → new.courses p ≡ plan.courses p
+        → (far : Far) → far_at network p l ≡ far → Result (Take p l)
+    take-far p l h same Nothing is = let never : waiting plan Nothing ≡ true = ap (waiting plan) (sym is) ∙ h.sender in cc
+    take-far p l h same Host is = elim (waits-part first first_on p l h is) [
+      | inl alike ↦ inl alike
+      | inr waits ↦ inr (take-again p l h same (ap (waiting new) is ∙ waits ∙ ap (waiting plan) (sym is)))
+    ]
+    take-far p l h same (Link q m) is = elim (touch first first_on q) [
+      | inl other ↦ inr
+          (take-again p l h same (ap (waiting new) is ∙ ap (λ c. is_waiting m (acts_left c)) other ∙ ap (waiting plan) (sym is)))
+      | inr touches ↦ inl (same-touch first (Take p l) q touches (own-sender p l q m h is))
+    ]
+
+    stays : (second : Pick) → enabled ops network holds s second ≡ true → Result second
+    stays HostSend on =
+        let h : HostSending ops network holds Q missing kept plan s u = host_send-goes ops network holds Q missing kept plan s u on in
+        elim (sends-part first first_on h) [
+          | inl alike ↦ inl alike
+          | inr same ↦ inr (host_send-enabled ops network holds Q missing kept new t v h.byte (plan_after network HostSend plan).sends
+              (same.0 ∙ h.is) (same.1 ∙ h.free))
+        ]
+    stays HostTake on =
+        let h : HostTaking ops network holds Q missing kept plan s u = host_take-goes ops network holds Q missing kept plan s u on in
+        elim (keeps-part first) [
+          | inl alike ↦ inl alike
+          | inr keeps ↦ elim (touch first first_on network.root) [
+            | inl same ↦ inr (host_take-enabled ops network holds Q missing kept new t v h.byte (plan_after network HostTake plan).keeps
+                (keeps ∙ h.is)
+                (v.full Host tt ∙ ap (λ c. is_waiting network.root_link (acts_left c)) same ∙ sym (u.full Host tt) ∙ ap (λ o. is_some o) h.held))
+            | inr touches ↦ inl (same-touch first HostTake network.root touches (own-root h))
+          ]
+        ]
+    stays (Proc p slice clock) on =
+        let h = step-goes ops network holds Q missing kept plan s u p clock slice on in
+        let two = both (nat_lt clock (2 ^ 32) && at_node false ops.runs s.nodes p)
+        (not (holds.held && at_node false (ops.stands (entry_of holds p)) s.nodes p)) on in
+        let small : clock < 2 ^ 32 = word clock (both (nat_lt clock (2 ^ 32)) (at_node false ops.runs s.nodes p) two.0).0 in
+        elim (touch first first_on p) [
+          | inl same ↦ inr (step-enabled ops network holds Q missing kept new t v p clock slice h.0 small (moved p Step same h.1))
+          | inr touches ↦ inl (same-touch first (Proc p slice clock) p touches (own-step p clock slice on))
+        ]
+    stays (Send p l) on =
+        let h : Sending ops network holds Q missing kept plan s u p l = send-goes ops network holds Q missing kept plan s u p l on in
+        elim (touch first first_on p) [
+          | inl same ↦ inr (send-enabled ops network holds Q missing kept new t v p l h.byte h.inside (moved p (Sends l h.byte) same h.goes))
+          | inr touches ↦ inl (same-touch first (Send p l) p touches (own-send p l h))
+        ]
+    stays (Take p l) on =
+        let h : Taking ops network holds Q missing kept plan s u p l = take-goes ops network holds Q missing kept plan s u p l on in
+        elim (touch first first_on p) [
+          | inl same ↦ take-far p l h same (far_at network p l) refl
+          | inr touches ↦ inl (same-touch first (Take p l) p touches (own-take p l h))
+        ]
