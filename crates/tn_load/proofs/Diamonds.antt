@@ -8,6 +8,7 @@ use Rattle.tn_net.specs.declared.networks.Far.TheVariants.{Nothing, Host, Link}
 use Rattle.tn_net.specs.Networks.{NetworkState, IsEnd, far_at}
 use Rattle.tn_network.specs.declared.picks.Pick.{Pick}
 use Rattle.tn_network.specs.declared.picks.Pick.TheVariants.{HostSend, HostTake, Proc, Send, Take}
+use Rattle.tn_network.specs.Hosts.{other_bytes}
 use Rattle.tn_network.specs.Boards.{BoardState, at_node, changed, latch_at}
 use Rattle.tn_network.specs.NodeOps.{NodeOps}
 use Rattle.tn_network.specs.Holds.{HoldState, entry_of, enabled}
@@ -19,6 +20,7 @@ use Rattle.tn_load.specs.LoneRuns.{is_waiting}
 use Rattle.tn_load.specs.Plans.{Course, Plan, now, acts_left, behind, advanced, advanced_at, plan_after}
 use Rattle.tn_load.specs.Shares.{waiting, latch_of}
 use Rattle.tn_load.specs.UnderWay.{IsUnderWay}
+use Rattle.tn_load.specs.Exchange.{Joins}
 use Rattle.tn_load.proofs.Going.{Goes, goes-acknowledge, advanced-here, advanced-other}
 use Rattle.tn_load.proofs.OnePick.{both, step-goes, Sending, send-goes}
 use Rattle.tn_load.proofs.Taking.{Taking, take-goes}
@@ -354,3 +356,151 @@ module _ {N : Type 0} (ops : NodeOps N) (network : NetworkState) (holds : HoldSt
           | inl same ↦ take-far p l h same (far_at network p l) refl
           | inr touches ↦ inl (same-touch first (Take p l) p touches (own-take p l h))
         ]
+
+  -- ---- both orders make the same plan
+
+  -- what a pick does to the bytes that the host sends, and keeps
+  dropped : Bool → List ℕ → List ℕ
+  dropped true bytes = other_bytes bytes
+  dropped false bytes = bytes
+
+  dropped-swap : (a b : Bool) (bytes : List ℕ) → dropped a (dropped b bytes) ≡ dropped b (dropped a bytes)
+  unfolding dropped
+  dropped-swap true true bytes = refl
+  dropped-swap true false bytes = refl
+  dropped-swap false true bytes = refl
+  dropped-swap false false bytes = refl
+
+  drops-sent : Pick → Bool
+  drops-sent HostSend = true
+  drops-sent HostTake = false
+  drops-sent (Proc p slice clock) = false
+  drops-sent (Send p l) = false
+  drops-sent (Take p l) = false
+
+  sends-after : (pick : Pick) (x : Plan N) → (plan_after network pick x).sends ≡ dropped (drops-sent pick) x.sends
+  unfolding dropped drops-sent
+  sends-after HostSend x = refl
+  sends-after HostTake x = refl
+  sends-after (Proc p slice clock) x = refl
+  sends-after (Send p l) x = refl
+  sends-after (Take p l) x = at-sends (far_at network p l) (record x { courses = advanced p x.courses })
+
+  sends-swap : (one two : Pick) → (plan_after network two (plan_after network one plan)).sends ≡ (plan_after network one (plan_after network two plan)).sends
+  sends-swap one two =
+      sends-after two (plan_after network one plan) ∙ ap (λ bs. dropped (drops-sent two) bs) (sends-after one plan)
+      ∙ dropped-swap (drops-sent two) (drops-sent one) plan.sends
+      ∙ ap (λ bs. dropped (drops-sent one) bs) (sym (sends-after two plan)) ∙ sym (sends-after one (plan_after network two plan))
+
+  drops-kept : Pick → Bool
+  drops-kept HostSend = false
+  drops-kept HostTake = true
+  drops-kept (Proc p slice clock) = false
+  drops-kept (Send p l) = false
+  drops-kept (Take p l) = false
+
+  keeps-after : (pick : Pick) (x : Plan N) → (plan_after network pick x).keeps ≡ dropped (drops-kept pick) x.keeps
+  unfolding dropped drops-kept
+  keeps-after HostSend x = refl
+  keeps-after HostTake x = refl
+  keeps-after (Proc p slice clock) x = refl
+  keeps-after (Send p l) x = refl
+  keeps-after (Take p l) x = at-keeps (far_at network p l) (record x { courses = advanced p x.courses })
+
+  keeps-swap : (one two : Pick) → (plan_after network two (plan_after network one plan)).keeps ≡ (plan_after network one (plan_after network two plan)).keeps
+  keeps-swap one two =
+      keeps-after two (plan_after network one plan) ∙ ap (λ bs. dropped (drops-kept two) bs) (keeps-after one plan)
+      ∙ dropped-swap (drops-kept two) (drops-kept one) plan.keeps
+      ∙ ap (λ bs. dropped (drops-kept one) bs) (sym (keeps-after two plan)) ∙ sym (keeps-after one (plan_after network two plan))
+
+  -- what it does to the mark of the host's byte that is not acknowledged: it sets it, clears it, or leaves it
+  marked : Option Bool → Bool → Bool
+  marked None x = x
+  marked (Some b) x = b
+
+  mark_far : Far → Option Bool
+  mark_far Nothing = None
+  mark_far Host = Some false
+  mark_far (Link q m) = None
+
+  mark : Pick → Option Bool
+  mark HostSend = Some true
+  mark HostTake = None
+  mark (Proc p slice clock) = None
+  mark (Send p l) = None
+  mark (Take p l) = mark_far (far_at network p l)
+
+  far-marked : (far : Far) (x : Plan N) → (advanced_at far x).waits ≡ marked (mark_far far) x.waits
+  unfolding marked mark_far
+  far-marked Nothing x = refl
+  far-marked Host x = refl
+  far-marked (Link q m) x = refl
+
+  waits-after : (pick : Pick) (x : Plan N) → (plan_after network pick x).waits ≡ marked (mark pick) x.waits
+  unfolding marked mark
+  waits-after HostSend x = refl
+  waits-after HostTake x = refl
+  waits-after (Proc p slice clock) x = refl
+  waits-after (Send p l) x = refl
+  waits-after (Take p l) x = far-marked (far_at network p l) (record x { courses = advanced p x.courses })
+
+  -- a mark is set where it is clear, and cleared where it is set
+  far-told : (far : Far) (b : Bool) → waiting plan far ≡ true → mark_far far ≡ Some b → b ≡ not plan.waits
+  unfolding mark_far
+  far-told Nothing b waits is = cc
+  far-told Host b waits is =
+      let clear : false ≡ b = cc in
+      sym clear ∙ ap not (sym waits)
+  far-told (Link q m) b waits is = cc
+
+  mark-told : (pick : Pick) (b : Bool) → enabled ops network holds s pick ≡ true → mark pick ≡ Some b → b ≡ not plan.waits
+  unfolding mark
+  mark-told HostSend b on is =
+      let h : HostSending ops network holds Q missing kept plan s u = host_send-goes ops network holds Q missing kept plan s u on in
+      let set : true ≡ b = cc in
+      sym set ∙ ap not (sym h.free)
+  mark-told HostTake b on is = cc
+  mark-told (Proc p slice clock) b on is = cc
+  mark-told (Send p l) b on is = cc
+  mark-told (Take p l) b on is =
+      let h : Taking ops network holds Q missing kept plan s u p l = take-goes ops network holds Q missing kept plan s u p l on in
+      far-told (far_at network p l) b h.sender is
+
+  marked-swap : (a b : Option Bool) (x : Bool) → ((c d : Bool) → a ≡ Some c → b ≡ Some d → c ≡ d) → marked a (marked b x) ≡ marked b (marked a x)
+  unfolding marked
+  marked-swap None b x agree = refl
+  marked-swap (Some c) None x agree = refl
+  marked-swap (Some c) (Some d) x agree = agree c d refl refl
+
+  waits-swap : (one two : Pick) → enabled ops network holds s one ≡ true → enabled ops network holds s two ≡ true
+      → (plan_after network two (plan_after network one plan)).waits ≡ (plan_after network one (plan_after network two plan)).waits
+  waits-swap one two one_on two_on =
+      waits-after two (plan_after network one plan) ∙ ap (λ b. marked (mark two) b) (waits-after one plan)
+      ∙ marked-swap (mark two) (mark one) plan.waits (λ c d is also. mark-told two c two_on is ∙ sym (mark-told one d one_on also))
+      ∙ ap (λ b. marked (mark one) b) (sym (waits-after two plan)) ∙ sym (waits-after one (plan_after network two plan))
+
+  -- ---- the diamond
+
+  pub joins : (one two : Pick) → enabled ops network holds s one ≡ true → enabled ops network holds s two ≡ true
+      → Joins ops network holds s one two
+  joins one two one_on two_on = elim (stays one one_on two two_on) [
+    | inl alike ↦ inl alike
+    | inr two_then ↦ elim (stays two two_on one one_on) [
+      | inl alike ↦ inl (sym alike)
+      | inr one_then ↦ inr
+          (two_then, one_then,
+          same-state ops network holds Q missing kept (plan_after network one (plan_after network two plan))
+          (plan_after network two (plan_after network one plan)) (step ops network one (step ops network two s))
+          (step ops network two (step ops network one s))
+          (keeps-on ops network holds Q missing kept (plan_after network two plan) (step ops network two s)
+          (keeps-on ops network holds Q missing kept plan s u two two_on) one one_then)
+          (keeps-on ops network holds Q missing kept (plan_after network one plan) (step ops network one s)
+          (keeps-on ops network holds Q missing kept plan s u one one_on) two two_then)
+          (record {
+            courses = λ q. courses-swap network one two plan q;
+            sends = sends-swap one two;
+            waits = waits-swap one two one_on two_on;
+            keeps = keeps-swap one two;
+          }))
+    ]
+  ]
