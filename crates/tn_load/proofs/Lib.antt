@@ -11,6 +11,7 @@ pub mod Keeping
 pub mod Enabling
 pub mod Resting
 pub mod Ending
-pub mod NetworkLaws
 pub mod Sameness
 pub mod Diamonds
+pub mod Descending
+pub mod NetworkLaws
