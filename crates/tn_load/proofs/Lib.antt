@@ -14,4 +14,5 @@ pub mod Ending
 pub mod Sameness
 pub mod Diamonds
 pub mod Descending
+pub mod Starting
 pub mod NetworkLaws

@@ -2,6 +2,7 @@
 
 ghost use Rattle.tn_network.specs.NodeOps.{NodeOps};
 ghost use Rattle.tn_load.specs.Keep.{Keep, GoesAlong, GoesOn, EndsOnce};
+ghost use Rattle.tn_load.specs.Exchange.{Commute, Exchange};
 
 /// Every pick that is enabled leaves a network under way, and takes one off the picks that are left.
 pub fn keep<N>()
@@ -25,5 +26,18 @@ pub fn goes_on<N>()
 /// is then one and the same.
 pub fn ends_once<N>()
     ensures law { (ops : NodeOps N) → EndsOnce ops }
+{
+}
+
+/// Two picks that are enabled lead to the same state, or each is enabled behind the other and both
+/// orders lead to the same state.
+pub fn commute<N>()
+    ensures law { (ops : NodeOps N) → Commute ops }
+{
+}
+
+/// Where some picks lead to rest, picks in any other order come to the same rest behind as many.
+pub fn exchange<N>()
+    ensures law { (ops : NodeOps N) → Exchange ops }
 {
 }

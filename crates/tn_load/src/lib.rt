@@ -3,4 +3,4 @@
 
 mod laws;
 
-pub use laws::{ends_once, goes_along, goes_on, keep};
+pub use laws::{commute, ends_once, exchange, goes_along, goes_on, keep};
