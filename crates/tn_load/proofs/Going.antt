@@ -1,11 +1,11 @@
 -- How a course goes on: what a node allows is the first act of what is left.
-use Rattle.std.proofs.Common.{◌≡◌, ◌≢◌, ℕ, ◌<◌, ◌==◌, ◌⊎◌, inl, inr, Bool, true, false, List, [], ◌∷◌, Some, None, refl, sym, ap, subst, ◌∙◌, arith}
+use Rattle.std.proofs.Common.{◌≡◌, ◌≢◌, ℕ, ◌<◌, ◌==◌, inl, inr, Bool, true, false, List, [], ◌∷◌, Some, None, refl, sym, ap, subst, ◌∙◌, arith}
 use Rattle.std.specs.Prelude.{if◌then◌else◌}
 use Rattle.std.proofs.lemmas.Bool.{cases_eq}
 use Rattle.std.proofs.lemmas.Bool.Decides.{nat_tests}
 use Rattle.tn_network.specs.NodeOps.{NodeOps}
 use Rattle.tn_network.specs.Holds.{HoldState}
-use Rattle.tn_load.specs.Acts.{Act, Post, Does, HasEnded, may_step}
+use Rattle.tn_load.specs.Acts.{Act, Post, Does, may_step}
 use Rattle.tn_load.specs.Acts.Act.{Step, Takes, Sends, Acks}
 use Rattle.tn_load.specs.LoneRuns.{takes_of, is_sending, is_waiting, AreAnswered}
 use Rattle.tn_load.specs.Plans.{Moment, Course, first_node, now, acts_of, acts_left, Follow, IsCourse, later, behind, advanced}
@@ -96,9 +96,12 @@ module _ {N : Type 0} (ops : NodeOps N) (post : Post) where
         × AreAnswered (acts_of (later ms)) × ((l : ℕ) → is_waiting l (acts_of (later ms)) ≡ is_sending l act)
     after-next [] end act follow answered is = cc
     after-next (m ∷ ms) end act follow answered is =
-        let e : m.act ≡ act = cc in
-        (subst (λ a. Does ops post a m.node (first_node end ms)) e follow.1, follow.2, answered.1,
-        λ l. answered.0 l ∙ ap (λ a. is_sending l a) e)
+        let e : m.act ≡ act = cc in (
+          subst (λ a. Does ops post a m.node (first_node end ms)) e follow.1,
+          follow.2,
+          answered.1,
+          λ l. answered.0 l ∙ ap (λ a. is_sending l a) e,
+        )
 
 -- acts that wait begin with the acknowledge
 waiting_for : (act : Act) (acts : List Act) (l : ℕ) → is_waiting l (act ∷ acts) ≡ true → act ≡ Acks l

@@ -1,5 +1,5 @@
 -- Keep: each enabled pick, and picks one after the other.
-use Rattle.std.proofs.Common.{◌≡◌, ◌≢◌, ℕ, zero, suc, ◌+◌, ◌<◌, ◌≤◌, ◌⊎◌, inl, inr, Bool, true, false, List, [], ◌∷◌, length, Some, None, refl, sym, ap, subst, ◌∙◌, arith}
+use Rattle.std.proofs.Common.{◌≡◌, ℕ, ◌+◌, true, List, [], ◌∷◌, length, refl, sym, ap, ◌∙◌, arith}
 use Rattle.tn_net.specs.declared.networks.Far.{Far}
 use Rattle.tn_net.specs.declared.networks.Far.TheVariants.{Nothing, Host, Link}
 use Rattle.tn_net.specs.Networks.{NetworkState, far_at}
@@ -41,7 +41,6 @@ module _ {N : Type 0} (ops : NodeOps N) (network : NetworkState) (holds : HoldSt
 
     abbrev weights : (ℕ → Course N) → ℕ
     weights courses = sum_below count (λ q. weight (acts_left (courses q)))
-
 
     length-others : (bytes rest : List ℕ) (byte : ℕ) → bytes ≡ byte ∷ rest → length bytes ≡ 1 + length rest
     length-others bytes rest byte is = ap (λ x. length x) is ∙ omega arith
