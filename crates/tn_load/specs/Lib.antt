@@ -5,3 +5,4 @@ pub mod Shares
 pub mod UnderWay
 pub mod Keep
 pub mod Exchange
+pub mod Boots
