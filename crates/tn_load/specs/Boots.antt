@@ -1,5 +1,5 @@
 -- Boots: a stream loads a network, whatever the memories held and in whatever order the steps come.
-use Rattle.std.specs.Prelude.{◌≡◌, ◌↔◌, ℕ, ◌+◌, ◌-◌, ◌*◌, ◌<◌, ◌≤◌, ◌%◌, ◌^◌, true, false, List, [], map, length, slice_index, slice_index_or, All}
+use Rattle.std.specs.Prelude.{◌≡◌, ◌↔◌, ℕ, ◌+◌, ◌-◌, ◌<◌, ◌≤◌, ◌%◌, ◌^◌, true, false, List, [], map, length, slice_index, slice_index_or, All}
 use Rattle.tn_word.specs.Words.{most_neg, load_base}
 use Rattle.tn_net.specs.Networks.{NetworkState, IsPairing}
 use Rattle.tn_net.specs.Trees.{LoadNode, IsLoadTree}
