@@ -1,11 +1,10 @@
 -- What is enabled in a network under way, as the acts that are left tell it.
-use Rattle.std.proofs.Common.{◌≡◌, ◌≢◌, ℕ, zero, suc, ◌+◌, ◌*◌, ◌<◌, ◌≤◌, ◌⊎◌, inl, inr, Bool, true, false, List, [], ◌∷◌, ◌++◌, length, Option, Some, None, refl, sym, ap, subst, ◌∙◌, arith, length-append}
+use Rattle.std.proofs.Common.{◌≡◌, ◌≢◌, ℕ, suc, ◌+◌, ◌<◌, ◌≤◌, Bool, true, false, List, [], ◌∷◌, length, Some, None, refl, sym, ap, subst, ◌∙◌, arith, length-append}
 use Rattle.std.specs.Prelude.{slice_get, is_some, nat_lt, ◌&&◌, ◌^◌, not}
 use Rattle.std.proofs.lemmas.Bool.Decides.{nat_tests}
 use Rattle.tn_net.specs.declared.networks.Far.{Far}
 use Rattle.tn_net.specs.declared.networks.Far.TheVariants.{Nothing, Host, Link}
-use Rattle.tn_net.specs.Networks.{NetworkState, IsEnd, far_at}
-use Rattle.tn_network.specs.declared.picks.Pick.{Pick}
+use Rattle.tn_net.specs.Networks.{NetworkState, far_at}
 use Rattle.tn_network.specs.declared.picks.Pick.TheVariants.{HostSend, HostTake, Proc, Send, Take}
 use Rattle.tn_network.specs.Hosts.{next_byte}
 use Rattle.tn_network.specs.Boards.{BoardState, given, at_node, latch_at}
@@ -13,10 +12,9 @@ use Rattle.tn_network.specs.NodeOps.{NodeOps}
 use Rattle.tn_network.specs.Holds.{HoldState, entry_of, enabled}
 use Rattle.tn_network.specs.Steps.{is_wired, offered}
 use Rattle.tn_load.specs.Acts.{Act}
-use Rattle.tn_load.specs.Acts.Act.{Step, Takes, Sends, Acks}
-use Rattle.tn_load.specs.LoneRuns.{sends_of, is_waiting}
-use Rattle.tn_load.specs.Plans.{Course, Plan, now, acts_left, behind}
-use Rattle.tn_load.specs.Shares.{outgoing, waiting}
+use Rattle.tn_load.specs.Acts.Act.{Step, Takes, Sends}
+use Rattle.tn_load.specs.Plans.{Plan, now}
+use Rattle.tn_load.specs.Shares.{outgoing}
 use Rattle.tn_load.specs.UnderWay.{IsUnderWay}
 use Rattle.tn_load.proofs.Going.{Goes}
 use Rattle.tn_load.proofs.OnePick.{both, joined}

@@ -1,5 +1,5 @@
 -- The end: where no pick is left, all is done, and the state is one and the same.
-use Rattle.std.proofs.Common.{◌≡◌, ◌≢◌, ℕ, zero, suc, ◌+◌, ◌-◌, ◌*◌, ◌/◌, ◌%◌, ◌<◌, ◌≤◌, ◌==◌, ◌⊎◌, inl, inr, Bool, true, false, List, [], ◌∷◌, ◌++◌, length, replicate, Option, Some, None, refl, sym, ap, subst, ◌∙◌, arith, append-nil}
+use Rattle.std.proofs.Common.{◌≡◌, ◌≢◌, ℕ, zero, suc, ◌+◌, ◌*◌, ◌/◌, ◌%◌, ◌<◌, ◌≤◌, ◌==◌, ◌⊎◌, inl, inr, Bool, true, false, List, [], ◌∷◌, ◌++◌, length, replicate, Option, Some, None, refl, sym, ap, subst, ◌∙◌, arith, append-nil}
 use Rattle.std.specs.Prelude.{is_some, if◌then◌else◌, slice_get, slice_index_or, ◌↔◌}
 use Rattle.std.proofs.lemmas.Bool.{cases_eq}
 use Rattle.std.proofs.lemmas.Option.{same_Some}
@@ -12,10 +12,9 @@ use Rattle.tn_network.specs.Boards.{BoardState, latch_at}
 use Rattle.tn_network.specs.NodeOps.{NodeOps}
 use Rattle.tn_network.specs.Holds.{HoldState, enabled}
 use Rattle.tn_network.specs.PickLists.{AreEnabled, after, AtRest}
-use Rattle.tn_network.specs.Steps.{step}
 use Rattle.tn_load.specs.Acts.{Act}
 use Rattle.tn_load.specs.LoneRuns.{takes_of, sends_of, is_waiting, weight}
-use Rattle.tn_load.specs.Plans.{Course, Moment, Plan, now, first_node, acts_of, acts_left, behind, advanced, advanced_at, plan_after, plan_behind, picks_left, sum_below}
+use Rattle.tn_load.specs.Plans.{Course, Moment, Plan, now, first_node, acts_of, acts_left, behind, plan_after, plan_behind, picks_left, sum_below}
 use Rattle.tn_load.specs.Shares.{IsWireEnd, other_end, taken_by, incoming, outgoing, waiting, latch_of, bytes_in}
 use Rattle.tn_load.specs.UnderWay.{IsUnderWay}
 use Rattle.tn_load.specs.Keep.{IsRooted, IsWhole, ends_from, ended_board}

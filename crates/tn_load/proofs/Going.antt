@@ -1,11 +1,11 @@
 -- How a course goes on: what a node allows is the first act of what is left.
-use Rattle.std.proofs.Common.{◌≡◌, ◌≢◌, ℕ, ◌<◌, ◌==◌, ◌⊎◌, inl, inr, Bool, true, false, List, [], ◌∷◌, Some, None, refl, sym, ap, subst, ◌∙◌, arith}
+use Rattle.std.proofs.Common.{◌≡◌, ◌≢◌, ℕ, ◌<◌, ◌==◌, inl, inr, Bool, true, false, List, [], ◌∷◌, Some, None, refl, sym, ap, subst, ◌∙◌, arith}
 use Rattle.std.specs.Prelude.{if◌then◌else◌}
 use Rattle.std.proofs.lemmas.Bool.{cases_eq}
 use Rattle.std.proofs.lemmas.Bool.Decides.{nat_tests}
 use Rattle.tn_network.specs.NodeOps.{NodeOps}
 use Rattle.tn_network.specs.Holds.{HoldState}
-use Rattle.tn_load.specs.Acts.{Act, Post, Does, HasEnded, may_step}
+use Rattle.tn_load.specs.Acts.{Act, Post, Does, may_step}
 use Rattle.tn_load.specs.Acts.Act.{Step, Takes, Sends, Acks}
 use Rattle.tn_load.specs.LoneRuns.{takes_of, is_sending, is_waiting, AreAnswered}
 use Rattle.tn_load.specs.Plans.{Moment, Course, first_node, now, acts_of, acts_left, Follow, IsCourse, later, behind, advanced}

@@ -1,5 +1,5 @@
 -- Keep: each enabled pick, and picks one after the other.
-use Rattle.std.proofs.Common.{◌≡◌, ◌≢◌, ℕ, zero, suc, ◌+◌, ◌<◌, ◌≤◌, ◌⊎◌, inl, inr, Bool, true, false, List, [], ◌∷◌, length, Some, None, refl, sym, ap, subst, ◌∙◌, arith}
+use Rattle.std.proofs.Common.{◌≡◌, ℕ, ◌+◌, true, List, [], ◌∷◌, length, refl, sym, ap, ◌∙◌, arith}
 use Rattle.tn_net.specs.declared.networks.Far.{Far}
 use Rattle.tn_net.specs.declared.networks.Far.TheVariants.{Nothing, Host, Link}
 use Rattle.tn_net.specs.Networks.{NetworkState, far_at}

@@ -1,10 +1,10 @@
 -- What a byte that goes out, or is taken, does to what a plan says of the wires.
-use Rattle.std.proofs.Common.{◌≡◌, ◌≢◌, ℕ, ◌<◌, ◌⊎◌, inl, inr, Bool, true, false, List, [], ◌∷◌, ◌++◌, length, Option, Some, None, refl, sym, ap, subst, ◌∙◌, arith}
+use Rattle.std.proofs.Common.{◌≡◌, ◌≢◌, ℕ, ◌⊎◌, inl, inr, true, false, List, ◌∷◌, ◌++◌, Option, Some, None, refl, sym, ap, subst, ◌∙◌}
 use Rattle.std.specs.Prelude.{is_some}
 use Rattle.std.proofs.lemmas.Bool.{cases_eq}
 use Rattle.tn_net.specs.declared.networks.Far.{Far}
 use Rattle.tn_net.specs.declared.networks.Far.TheVariants.{Nothing, Host, Link}
-use Rattle.tn_net.specs.Networks.{NetworkState, IsEnd, IsPairing, far_at}
+use Rattle.tn_net.specs.Networks.{NetworkState, IsPairing, far_at}
 use Rattle.tn_network.specs.Boards.{BoardState}
 use Rattle.tn_load.specs.Plans.{Plan}
 use Rattle.tn_load.specs.Shares.{IsWireEnd, other_end, incoming, outgoing, waiting, latch_of, bytes_in}

@@ -1,5 +1,5 @@
 -- Progress: while picks are left some pick is enabled.
-use Rattle.std.proofs.Common.{◌≡◌, ◌≢◌, ℕ, zero, suc, ◌+◌, ◌*◌, ◌<◌, ◌≤◌, ◌==◌, ◌⊎◌, inl, inr, Bool, true, false, List, [], ◌∷◌, ◌++◌, length, Option, Some, None, refl, sym, ap, subst, ◌∙◌, arith, length-append}
+use Rattle.std.proofs.Common.{◌≡◌, ℕ, zero, suc, ◌+◌, ◌<◌, ◌==◌, ◌⊎◌, inl, inr, Bool, true, false, List, [], ◌∷◌, ◌++◌, length, Option, Some, None, refl, sym, ap, ◌∙◌, arith}
 use Rattle.std.specs.Prelude.{is_some, if◌then◌else◌}
 use Rattle.std.proofs.lemmas.Bool.{cases_eq}
 use Rattle.tn_net.specs.declared.networks.Far.{Far}
@@ -12,13 +12,13 @@ use Rattle.tn_network.specs.NodeOps.{NodeOps}
 use Rattle.tn_network.specs.Holds.{HoldState, enabled}
 use Rattle.tn_load.specs.Acts.{Act}
 use Rattle.tn_load.specs.Acts.Act.{Step, Takes, Sends, Acks}
-use Rattle.tn_load.specs.LoneRuns.{takes_of, sends_of, is_waiting, weight}
-use Rattle.tn_load.specs.Plans.{Course, Moment, Plan, acts_of, acts_left, behind, later, picks_left, sum_below}
+use Rattle.tn_load.specs.LoneRuns.{takes_of, sends_of, is_waiting}
+use Rattle.tn_load.specs.Plans.{Course, Moment, Plan, acts_of, acts_left, behind, later}
 use Rattle.tn_load.specs.Shares.{IsWireEnd, other_end, taken_by, incoming, outgoing, waiting, latch_of, bytes_in}
 use Rattle.tn_load.specs.UnderWay.{IsUnderWay}
 use Rattle.tn_load.specs.Keep.{IsRooted, IsWhole}
-use Rattle.tn_load.proofs.Going.{Goes, goes, goes-acknowledge, same_number, other_number}
-use Rattle.tn_load.proofs.Latches.{empty-latch, full-latch}
+use Rattle.tn_load.proofs.Going.{Goes, goes, same_number, other_number}
+use Rattle.tn_load.proofs.Latches.{full-latch}
 use Rattle.tn_load.proofs.Enabling.{step-enabled, send-enabled, take-enabled, host_send-enabled, host_take-enabled}
 
 -- ---- what is left, or nothing

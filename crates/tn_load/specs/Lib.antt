@@ -8,3 +8,4 @@ pub mod Targets
 pub mod Boots
 pub mod Inner
 pub mod Exchange
+pub mod Boots

@@ -4,5 +4,5 @@
 mod laws;
 mod loads;
 
-pub use laws::{ends_once, goes_along, goes_on, keep};
+pub use laws::{commute, ends_once, exchange, goes_along, goes_on, keep};
 pub use loads::boots;
