@@ -21,7 +21,8 @@ module _ {N : Type 0} (ops : NodeOps N) (post : Post) (Q : N → List Act → Ty
   first-moments [] n end run = sym run.1
   first-moments (act ∷ acts) n end run = refl
 
-  pub follow : (acts : List Act) (n end : N) (run : Lone ops post Q acts n end) → HasEnded ops post end → Follow ops post Q (moments acts n end run) end
+  pub follow : (acts : List Act) (n end : N) (run : Lone ops post Q acts n end) → HasEnded ops post end
+      → Follow ops post Q (moments acts n end run) end
   unfolding moments
   follow [] n end run ended = (subst (λ x. Q x []) run.1 run.0, ended)
   follow (act ∷ acts) n end run ended = (

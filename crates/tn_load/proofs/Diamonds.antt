@@ -1,5 +1,6 @@
 -- Two enabled picks are the same act, or neither minds the other.
-use Rattle.std.proofs.Common.{◌≡◌, ◌≢◌, ℕ, zero, suc, ◌+◌, ◌<◌, ◌==◌, ◌⊎◌, inl, inr, Bool, true, false, List, [], ◌∷◌, length, Option, Some, None, refl, sym, ap, subst, ◌∙◌, arith}
+use Rattle.std.proofs.Common.{◌≡◌, ◌≢◌, ℕ, zero, suc, ◌+◌, ◌<◌, ◌==◌, ◌⊎◌, inl, inr, Bool, true, false, List, [], ◌∷◌, length, Option}
+use Rattle.std.proofs.Common.{Some, None, refl, sym, ap, subst, ◌∙◌, arith}
 use Rattle.std.specs.Prelude.{slice_get, slice_set, is_some, if◌then◌else◌, nat_lt, ◌&&◌, ◌^◌, not}
 use Rattle.std.proofs.lemmas.Bool.{cases_eq}
 use Rattle.std.proofs.lemmas.Bool.Decides.{nat_tests}
@@ -58,7 +59,8 @@ far_hit Nothing q = 0
 far_hit Host q = 0
 far_hit (Link p l) q = hit p q
 
-advanced_at-hit : {N : Type 0} (far : Far) (plan : Plan N) (q : ℕ) → (advanced_at far plan).courses q ≡ behinds (far_hit far q) (plan.courses q)
+advanced_at-hit : {N : Type 0} (far : Far) (plan : Plan N) (q : ℕ)
+    → (advanced_at far plan).courses q ≡ behinds (far_hit far q) (plan.courses q)
 unfolding behinds far_hit
 advanced_at-hit Nothing plan q = refl
 advanced_at-hit Host plan q = refl
@@ -88,7 +90,8 @@ pub courses-swap : {N : Type 0} (network : NetworkState) (one two : Pick) (plan 
 courses-swap network one two plan q =
     after-hits network two (plan_after network one plan) q ∙ ap (λ c. behinds (hits network two q) c) (after-hits network one plan q)
     ∙ behinds-swap (hits network two q) (hits network one q) (plan.courses q)
-    ∙ ap (λ c. behinds (hits network one q) c) (sym (after-hits network two plan q)) ∙ sym (after-hits network one (plan_after network two plan) q)
+    ∙ ap (λ c. behinds (hits network one q) c) (sym (after-hits network two plan q))
+    ∙ sym (after-hits network one (plan_after network two plan) q)
 
 at-sends : {N : Type 0} (far : Far) (plan : Plan N) → (advanced_at far plan).sends ≡ plan.sends
 at-sends Nothing plan = refl

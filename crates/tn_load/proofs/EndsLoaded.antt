@@ -44,7 +44,8 @@ whole-pieces image first after lies apart whole =
     (stands-all image.segments after (subst (λ n. LieIn n image.segments) (sym size) lies) stand)
 
 -- a processor at its entry whose image is whole is loaded
-pub loaded-node : (image : ImageBytes) (first after : List ℕ) → LieIn (length first) image.segments → AreApart image.segments → HasTimers after
+pub loaded-node : (image : ImageBytes) (first after : List ℕ) → LieIn (length first) image.segments → AreApart image.segments
+    → HasTimers after
     → Whole image first after → IsLoadedNode (λ m. m) (at_entry (λ m. m) image after) (target_of image)
 loaded-node image first after lies apart timers whole =
     let entry : image.entry == image.entry ≡ true = same image.entry in

@@ -69,7 +69,8 @@ module _ (network : NetworkState) (nodes : List LoadNode) (images : List ImageBy
   none-waits : (p l : ℕ) → p < length network.sizes → is_waiting l (acts_left (plan.courses p)) ≡ false
   none-waits p l inside =
       ap (is_waiting l) (planned network nodes images powers holds h p inside).acts_are
-      ∙ settled-waits (settled-life (branch network nodes images powers holds h p).root (branch network nodes images powers holds h p).below) l
+      ∙ settled-waits (settled-life (branch network nodes images powers holds h p).root
+      (branch network nodes images powers holds h p).below) l
 
   latch-first : (e : Far) → latch_of board e ≡ None
   latch-first Nothing = refl
@@ -79,7 +80,8 @@ module _ (network : NetworkState) (nodes : List LoadNode) (images : List ImageBy
   wires-first : (e : Far) → IsWireEnd network e
       → incoming plan e ≡ bytes_in (latch_of board e) ++ (outgoing plan (other_end network e) ++ unsent network rest e)
   unfolding tree_plan
-  wires-first e end = go e end ∙ ap (λ x. bytes_in x ++ (outgoing plan (other_end network e) ++ unsent network rest e)) (sym (latch-first e))
+  wires-first e end = go e end ∙ ap (λ x. bytes_in x ++ (outgoing plan (other_end network e) ++ unsent network rest e))
+      (sym (latch-first e))
     where
       sent : (f : Far)
           → from_far network nodes images powers holds h (stream (whole_branch images nodes)) f ≡ outgoing plan f ++ from_host rest f
@@ -165,7 +167,8 @@ module _ (network : NetworkState) (nodes : List LoadNode) (images : List ImageBy
         courses = λ p inside. let c = u.courses p inside in record {
           boot = c.boot;
           follow = follow-weaker memory_ops (record { holds = holds; processor = p; boot = (plan.courses p).boot })
-              (Facts network nodes images powers holds h p) (λ n left. Unit {0}) (λ n left q. tt) (plan.courses p).moments (plan.courses p).end c.follow;
+              (Facts network nodes images powers holds h p) (λ n left. Unit {0}) (λ n left q. tt) (plan.courses p).moments
+              (plan.courses p).end c.follow;
           answered = c.answered;
         };
         bytes = u.bytes;
@@ -192,7 +195,8 @@ module _ (network : NetworkState) (nodes : List LoadNode) (images : List ImageBy
           → place_of nodes q < place_of nodes p
       falls p q m inside far zero is =
           let at = spotted network nodes images powers holds h p inside in
-          let root : p ≡ network.root = sym at.processor ∙ (ap (λ k. (node_at nodes k).processor) is ∙ root-processor network nodes h.pairing h.tree h.whole) in
+          let root : p ≡ network.root = sym at.processor
+          ∙ (ap (λ k. (node_at nodes k).processor) is ∙ root-processor network nodes h.pairing h.tree h.whole) in
           let link : (plan.courses p).boot ≡ network.root_link =
           (planned network nodes images powers holds h p inside).boot ∙ (ap (λ k. (node_at nodes k).boot_link) is ∙ h.tree.boot) in
           let host : far_at network p (plan.courses p).boot ≡ Host =
@@ -202,11 +206,13 @@ module _ (network : NetworkState) (nodes : List LoadNode) (images : List ImageBy
       falls p q m inside far (suc k) is =
           let at = spotted network nodes images powers holds h p inside in
           let up = under network nodes h.pairing h.tree h.whole (place_of nodes p) (omega (arith, is)) at.within in
-          let there : far_at network p (plan.courses p).boot ≡ Link (node_at nodes up.parent).processor (node_at nodes (place_of nodes p)).parent_link =
+          let there : far_at network p (plan.courses p).boot ≡ Link (node_at nodes up.parent).processor
+          (node_at nodes (place_of nodes p)).parent_link =
           ap (λ x. far_at network p x) (planned network nodes images powers holds h p inside).boot
           ∙ (ap (λ x. far_at network x (node_at nodes (place_of nodes p)).boot_link) (sym at.processor) ∙ up.far) in
           let same : (node_at nodes up.parent).processor ≡ q =
           link_first (node_at nodes up.parent).processor (node_at nodes (place_of nodes p)).parent_link q m (sym there ∙ far) in
-          let spot_is : place_of nodes q ≡ up.parent = ap (place_of nodes) (sym same) ∙ place-is network nodes h.pairing h.tree h.whole up.parent up.within in
+          let spot_is : place_of nodes q ≡ up.parent =
+          ap (place_of nodes) (sym same) ∙ place-is network nodes h.pairing h.tree h.whole up.parent up.within in
           let before = parent-before nodes (length network.sizes) h.whole (place_of nodes p) up.parent at.within up.is in
           omega (arith, spot_is, before)

@@ -1,5 +1,6 @@
 -- The lone run of a node over a space is a lone run of it in any network.
-use Rattle.std.proofs.Common.{◌≡◌, ◌≢◌, ◌⊎◌, inl, inr, ℕ, ◌==◌, ◌<◌, ◌≤◌, Bool, true, false, List, [], ◌∷◌, Option, Some, None, refl, ap, ◌∙◌, arith}
+use Rattle.std.proofs.Common.{◌≡◌, ◌≢◌, ◌⊎◌, inl, inr, ℕ, ◌==◌, ◌<◌, ◌≤◌, Bool, true, false, List, [], ◌∷◌, Option, Some, None, refl, ap}
+use Rattle.std.proofs.Common.{◌∙◌, arith}
 use Rattle.std.specs.Prelude.{◌&&◌, not, nat_lt}
 use Rattle.std.proofs.lemmas.Bool.Decides.{nat_tests}
 use Rattle.tn_word.specs.Words.{load_base}
@@ -78,7 +79,8 @@ module _ {M : Type 0} (access : Access M) (holds : HoldState) (p k : ℕ) (link 
       let life : n.cpu.life ≡ Running = runs_life n.cpu.life b.0 in
       let runs : runs_in (mode_of n) ≡ true = rw (stage, life) refl in
       let apart : n.cpu.iptr == entry_of holds p ≡ false = elsewhere n.cpu.iptr (entry_of holds p) c.0 above in
-      let off : stands_at (entry_of holds p) n ≡ false = unless_there (runs_in (mode_of n)) (n.cpu.iptr == entry_of holds p) (n.cpu.oreg == 0) apart in
+      let off : stands_at (entry_of holds p) n ≡ false =
+      unless_there (runs_in (mode_of n)) (n.cpu.iptr == entry_of holds p) (n.cpu.oreg == 0) apart in
       record {
         may = not_held (runs_in (mode_of n)) holds.held (stands_at (entry_of holds p) n) runs off;
         wants = λ l low. (steps-mute access n h l low).takes_none;
@@ -94,7 +96,8 @@ module _ {M : Type 0} (access : Access M) (holds : HoldState) (p k : ℕ) (link 
       let a = both _ _ h in
       let b = both _ _ a.1 in
       let c = both _ _ b.1 in
-      unless_there (runs_in (mode_of n)) (n.cpu.iptr == entry_of holds p) (n.cpu.oreg == 0) (elsewhere n.cpu.iptr (entry_of holds p) c.0 above)
+      unless_there (runs_in (mode_of n)) (n.cpu.iptr == entry_of holds p) (n.cpu.oreg == 0)
+      (elsewhere n.cpu.iptr (entry_of holds p) c.0 above)
     where
       elsewhere : (x y : ℕ) → nat_lt x load_base ≡ true → load_base ≤ y → x == y ≡ false
       elsewhere x y less more = grind (arith, nat_tests)

@@ -16,7 +16,8 @@ goes_on ops network holds missing kept plan s u rooted whole some =
     ending.goes_on ops network holds Anything missing kept plan s u rooted whole some
 
 pub ends_once : {N : Type 0} (ops : NodeOps N) → EndsOnce ops
-ends_once ops network holds missing kept plan s picks u rooted whole on =
-    (ending.at_most ops network holds Anything missing kept plan s picks u rooted whole on,
-    ending.rests ops network holds Anything missing kept plan s picks u rooted whole on,
-    ending.one_end ops network holds Anything missing kept plan s picks u rooted whole on)
+ends_once ops network holds missing kept plan s picks u rooted whole on = (
+  ending.at_most ops network holds Anything missing kept plan s picks u rooted whole on,
+  ending.rests ops network holds Anything missing kept plan s picks u rooted whole on,
+  ending.one_end ops network holds Anything missing kept plan s picks u rooted whole on,
+)

@@ -1,5 +1,6 @@
 -- What an enabled step or sending is of the courses; and lists of nodes and courses, one of which goes on.
-use Rattle.std.proofs.Common.{◌≡◌, ◌≢◌, ℕ, suc, ◌+◌, ◌*◌, ◌<◌, ◌≤◌, ◌==◌, ◌⊎◌, inl, inr, Bool, true, false, List, [], ◌∷◌, ◌++◌, length, Option, Some, None, refl, sym, ap, subst, ◌∙◌, arith}
+use Rattle.std.proofs.Common.{◌≡◌, ◌≢◌, ℕ, suc, ◌+◌, ◌*◌, ◌<◌, ◌≤◌, ◌==◌, ◌⊎◌, inl, inr, Bool, true, false, List, [], ◌∷◌, ◌++◌, length}
+use Rattle.std.proofs.Common.{Option, Some, None, refl, sym, ap, subst, ◌∙◌, arith}
 use Rattle.std.specs.Prelude.{slice_get, slice_set, is_some, unwrap_or, nat_lt, ◌&&◌, ◌^◌, not}
 use Rattle.std.proofs.Math.ListN.{length-set}
 use Rattle.std.proofs.lemmas.Bool.{cases_eq}
@@ -26,7 +27,8 @@ use Rattle.tn_load.specs.Shares.{IsWireEnd, other_end, taken_by, incoming, outgo
 use Rattle.tn_load.specs.UnderWay.{IsUnderWay}
 use Rattle.tn_load.proofs.Going.{Goes, goes-step, goes-send, goes-take, goes-acknowledge, advanced-here, advanced-other, each-advanced}
 use Rattle.tn_load.proofs.Latches.{cases_far, empty-latch, full-latch, other_end-twice, Fits, fits-same, Sent, fits-sent, Taken, fits-taken}
-use Rattle.tn_load.proofs.Heads.{step-takes, step-sends, step-waits, send-takes, send-here, send-else, send-free, send-waits, send-waits_else}
+use Rattle.tn_load.proofs.Heads.{step-takes, step-sends, step-waits, send-takes, send-here, send-else, send-free, send-waits}
+use Rattle.tn_load.proofs.Heads.{send-waits_else}
 use Rattle.tn_load.proofs.Heads.{take-here, take-else, take-sends, take-waits, acknowledge-takes, acknowledge-sends}
 use Rattle.tn_load.proofs.Heads.{acknowledge-free, acknowledge-else}
 

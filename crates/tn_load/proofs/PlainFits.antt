@@ -11,7 +11,8 @@ lie-in : (size : ℕ) (segments : List SegmentBytes) → AllByRecursion (LiesInM
 lie-in size [] all = tt
 lie-in size (s ∷ rest) all = (record { some = all.0.some; low = all.0.low; high = all.0.high }, lie-in size rest all.1)
 
-outside : (s : SegmentBytes) (rest : List SegmentBytes) (x : ℕ) → s.base ≤ x → x < s.base + length s.bytes → AllByRecursion (AreTwoApart s) rest
+outside : (s : SegmentBytes) (rest : List SegmentBytes) (x : ℕ) → s.base ≤ x → x < s.base + length s.bytes
+    → AllByRecursion (AreTwoApart s) rest
     → IsOutside x rest
 outside s [] x low high all = tt
 outside s (t ∷ rest) x low high all = (

@@ -66,7 +66,8 @@ module _ (images : List ImageBytes) (nodes : List LoadNode) (count : ℕ) (whole
       ∙ sum_by-map (λ (x : ℕ × Branch Site). bytes_received x.1) (linked images nodes count whole) (node_at nodes k).children)
 
   children_steps : (k : ℕ) → k < length nodes
-      → all_forwards (branch_at images nodes k).below ≡ sum_by (λ c. steps_to (lengths_of (branch_at images nodes c))) (node_at nodes k).children
+      → all_forwards (branch_at images nodes k).below ≡ sum_by (λ c. steps_to (lengths_of (branch_at images nodes c)))
+      (node_at nodes k).children
   children_steps k inside =
       ap (λ b. all_forwards b.below) (branch-is images nodes count whole k inside)
       ∙ (forwards-hung (map (linked images nodes count whole) (node_at nodes k).children)
@@ -94,9 +95,11 @@ module _ (images : List ImageBytes) (nodes : List LoadNode) (count : ℕ) (whole
       go : (n : ℕ) → length nodes ≡ n → total weighs n + receives 0 ≡ total makes n
       go zero size = absurd (let some = whole.some in omega arith)
       go (suc n) size =
-          let each = total-same (λ k. weighs k + receives k) (λ k. makes k + sum_by receives (children_below (λ c. (node_at nodes c).parent) k (suc n))) (suc n)
+          let each = total-same (λ k. weighs k + receives k)
+          (λ k. makes k + sum_by receives (children_below (λ c. (node_at nodes c).parent) k (suc n))) (suc n)
           (λ k inside. weighs-node k (omega (arith, size))
-          ∙ ap (λ cs. makes k + sum_by receives cs) (whole.children k (omega (arith, size)) ∙ ap (children_below (λ c. (node_at nodes c).parent) k) size)) in
+          ∙ ap (λ cs. makes k + sum_by receives cs)
+          (whole.children k (omega (arith, size)) ∙ ap (children_below (λ c. (node_at nodes c).parent) k) size)) in
           let left = total-add weighs receives (suc n) in
           let right = total-add makes (λ k. sum_by receives (children_below (λ c. (node_at nodes c).parent) k (suc n))) (suc n) in
           let once = counts-once receives (λ c. (node_at nodes c).parent) n whole.top (parents n size) in
@@ -104,16 +107,19 @@ module _ (images : List ImageBytes) (nodes : List LoadNode) (count : ℕ) (whole
 
   load_steps-total : load_steps images nodes ≡ total makes (length nodes)
   unfolding sum_below
-  load_steps-total = ap (λ ns. sum_by (λ x. node_steps images nodes x.0 x.1) (enumerate_from 0 ns)) (sym (take_all (length nodes) nodes (omega arith))) ∙ upto (length nodes) (omega arith)
+  load_steps-total = ap (λ ns. sum_by (λ x. node_steps images nodes x.0 x.1) (enumerate_from 0 ns))
+      (sym (take_all (length nodes) nodes (omega arith))) ∙ upto (length nodes) (omega arith)
     where
       upto : (j : ℕ) → j ≤ length nodes → sum_by (λ x. node_steps images nodes x.0 x.1) (enumerate_from 0 (take j nodes)) ≡ total makes j
       upto zero within = refl
       upto (suc j) within =
-          let more = numbered-more (λ x. node_steps images nodes x.0 x.1) nodes j (record { processor = 0; parent = None; parent_link = 0; boot_link = 0; children = [] }) (omega arith) in
+          let more = numbered-more (λ x. node_steps images nodes x.0 x.1) nodes j
+          (record { processor = 0; parent = None; parent_link = 0; boot_link = 0; children = [] }) (omega arith) in
           let rest = upto j (omega arith) in
           let next : j + 1 ≡ suc j = omega arith in
           let at : sum_by (λ x. node_steps images nodes x.0 x.1) (enumerate_from 0 (take (suc j) nodes))
-          ≡ sum_by (λ x. node_steps images nodes x.0 x.1) (enumerate_from 0 (take (j + 1) nodes)) = ap (λ i. sum_by (λ x. node_steps images nodes x.0 x.1) (enumerate_from 0 (take i nodes))) (sym next) in
+          ≡ sum_by (λ x. node_steps images nodes x.0 x.1) (enumerate_from 0 (take (j + 1) nodes)) =
+          ap (λ i. sum_by (λ x. node_steps images nodes x.0 x.1) (enumerate_from 0 (take i nodes))) (sym next) in
           omega arith
 
   -- the picks of all, with the bytes that the host sends
@@ -121,8 +127,10 @@ module _ (images : List ImageBytes) (nodes : List LoadNode) (count : ℕ) (whole
   unfolding stream
   all-picks =
       let b : Branch Site = whole_branch images nodes in
-      let last : length (stream b) ≡ length (load_part b ++ sync_part b) + length (start_part b) = length-append (load_part b ++ sync_part b) (start_part b) in
-      let first : length (load_part b ++ sync_part b) ≡ length (load_part b) + length (sync_part b) = length-append (load_part b) (sync_part b) in
+      let last : length (stream b) ≡ length (load_part b ++ sync_part b) + length (start_part b) =
+      length-append (load_part b ++ sync_part b) (start_part b) in
+      let first : length (load_part b ++ sync_part b) ≡ length (load_part b) + length (sync_part b) =
+      length-append (load_part b) (sync_part b) in
       let all : total weighs (length nodes) + receives 0 ≡ total makes (length nodes) = weighs-all in
       let steps : load_steps images nodes ≡ total makes (length nodes) = load_steps-total in
       omega (arith, all, steps, first, last)

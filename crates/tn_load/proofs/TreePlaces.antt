@@ -21,7 +21,8 @@ pub record IsPlaceOf (nodes : List LoadNode) (p k : ℕ) : Type 0 where
   pub within : k < length nodes
   pub processor : (node_at nodes k).processor ≡ p
 
-pub place-found : (nodes : List LoadNode) (k p : ℕ) → k < length nodes → (node_at nodes k).processor ≡ p → IsPlaceOf nodes p (place_of nodes p)
+pub place-found : (nodes : List LoadNode) (k p : ℕ) → k < length nodes → (node_at nodes k).processor ≡ p
+    → IsPlaceOf nodes p (place_of nodes p)
 unfolding place_of
 place-found [] k p inside is = absurd (omega arith)
 place-found (node ∷ nodes) k p inside is = go k inside is (node.processor == p) refl (λ j below at. place-found nodes j p below at)
@@ -80,7 +81,8 @@ module _ (network : NetworkState) (nodes : List LoadNode) (pairing : IsPairing n
   first_is : (k : ℕ) → k < length nodes → path_at tree.paths k ≡ [] → k ≡ 0
   first_is zero inside empty = refl
   first_is (suc k) inside empty =
-      absurd (before (path_at tree.paths 0) (subst (λ path. PrecedesInDictionary (path_at tree.paths 0) path) empty (tree.order 0 (suc k) (omega arith) inside)))
+      absurd (before (path_at tree.paths 0) (subst (λ path. PrecedesInDictionary (path_at tree.paths 0) path) empty
+      (tree.order 0 (suc k) (omega arith) inside)))
     where
       before : (path : List ℕ) → PrecedesInDictionary path [] → ⊥
       before [] h = h
@@ -103,8 +105,10 @@ module _ (network : NetworkState) (nodes : List LoadNode) (pairing : IsPairing n
     pub parent : ℕ
     pub within : parent < length nodes
     pub is : (node_at nodes k).parent ≡ Some parent
-    pub far : far_at network (node_at nodes k).processor (node_at nodes k).boot_link ≡ Link (node_at nodes parent).processor (node_at nodes k).parent_link
-    pub there : far_at network (node_at nodes parent).processor (node_at nodes k).parent_link ≡ Link (node_at nodes k).processor (node_at nodes k).boot_link
+    pub far : far_at network (node_at nodes k).processor (node_at nodes k).boot_link ≡ Link (node_at nodes parent).processor
+        (node_at nodes k).parent_link
+    pub there : far_at network (node_at nodes parent).processor (node_at nodes k).parent_link ≡ Link (node_at nodes k).processor
+        (node_at nodes k).boot_link
 
   pub under : (k : ℕ) → 0 < k → k < length nodes → IsUnder k
   under k some inside =
@@ -115,7 +119,8 @@ module _ (network : NetworkState) (nodes : List LoadNode) (pairing : IsPairing n
         parent = below.place;
         within = below.here;
         is = below.parent;
-        far = pairing.ways (node_at nodes below.place).processor (node_at nodes k).parent_link (node_at nodes k).processor (node_at nodes k).boot_link end below.wire;
+        far = pairing.ways (node_at nodes below.place).processor (node_at nodes k).parent_link (node_at nodes k).processor
+            (node_at nodes k).boot_link end below.wire;
         there = below.wire;
       }
 
@@ -160,7 +165,8 @@ module _ (network : NetworkState) (nodes : List LoadNode) (pairing : IsPairing n
 
   -- by a link that leads to no child nothing is sent
   pub silent : (images : List ImageBytes) (k l : ℕ) → k < length nodes
-      → ((c : ℕ) → c < length nodes → far_at network (node_at nodes k).processor l ≢ Link (node_at nodes c).processor (node_at nodes c).boot_link)
+      → ((c : ℕ) → c < length nodes → far_at network (node_at nodes k).processor l ≢ Link (node_at nodes c).processor
+      (node_at nodes c).boot_link)
       → sends_of l (acts_at images nodes k) ≡ []
   silent images k l inside apart = elim (hangs-or-none images k l inside) [
     | inl at ↦ absurd (apart at.child at.within at.far)

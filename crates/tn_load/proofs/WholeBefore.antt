@@ -36,7 +36,8 @@ use Rattle.tn_load.proofs.TreeRuns.{branch, power, site-is, spotted}
 use Rattle.tn_load.proofs.TreePlans.{Facts, IsPlanned, tree_plan, planned}
 
 -- what holds of the node that a course has come to
-fact_now : {N : Type 0} (ops : _) (post : Post) (Q : N → List Act → Type 0) (moments : List (Moment N)) (end : N) → Follow ops post Q moments end
+fact_now : {N : Type 0} (ops : _) (post : Post) (Q : N → List Act → Type 0) (moments : List (Moment N)) (end : N)
+    → Follow ops post Q moments end
     → Q (first_node end moments) (acts_of moments)
 fact_now ops post Q [] end h = h.0
 fact_now ops post Q (m ∷ moments) end h = h.0
@@ -62,7 +63,8 @@ module _ (network : NetworkState) (nodes : List LoadNode) (images : List ImageBy
   -- the boot link of each course is that of its place, and the facts go on
   boot-is : (p : ℕ) → p < length network.sizes → (plan.courses p).boot ≡ (node_at nodes (place_of nodes p)).boot_link
   boot-is p inside =
-      behind-kept (λ q (c : Course (NodeState (List ℕ))). c.boot ≡ (node_at nodes (place_of nodes q)).boot_link) (λ q c is. is) network picks
+      behind-kept (λ q (c : Course (NodeState (List ℕ))). c.boot ≡ (node_at nodes (place_of nodes q)).boot_link) (λ q c is. is) network
+      picks
       first_plan p (planned network nodes images powers holds h p inside).boot
 
   facts : (p : ℕ) → p < length network.sizes → Facts network nodes images powers holds h p (now (plan.courses p)) (left p)
@@ -70,7 +72,8 @@ module _ (network : NetworkState) (nodes : List LoadNode) (images : List ImageBy
       let course = behind-kept (IsCourse memory_ops holds (Facts network nodes images powers holds h))
       (course-goes memory_ops holds (Facts network nodes images powers holds h)) network picks first_plan p
       (planned network nodes images powers holds h p inside).course in
-      fact_now memory_ops (record { holds = holds; processor = p; boot = (plan.courses p).boot }) (Facts network nodes images powers holds h p)
+      fact_now memory_ops (record { holds = holds; processor = p; boot = (plan.courses p).boot })
+      (Facts network nodes images powers holds h p)
       (plan.courses p).moments (plan.courses p).end course.follow
 
   -- ---- by places
@@ -135,7 +138,8 @@ module _ (network : NetworkState) (nodes : List LoadNode) (images : List ImageBy
       let parts = parts-are (suc k) within up in
       let few : length (sends_of (node_at nodes (suc k)).parent_link (left (at up.parent)))
       < last_parts (branch_at images nodes up.parent).below (node_at nodes (suc k)).parent_link = omega (arith, sent, parts, less) in
-      upward fuel up.parent (omega (arith, before, small)) up.within ((along up.parent up.within).less (node_at nodes (suc k)).parent_link few)
+      upward fuel up.parent (omega (arith, before, small)) up.within
+      ((along up.parent up.within).less (node_at nodes (suc k)).parent_link few)
 
   -- where the root takes its part of the last wave, no place has more than its own left to take
   downward : (fuel k : ℕ) → k < fuel → k < length nodes → length (takes_of (left (at 0))) ≤ last_of_place 0
@@ -176,6 +180,7 @@ module _ (network : NetworkState) (nodes : List LoadNode) (images : List ImageBy
       (omega (arith, none_at, some-last (place_of nodes p))) in
       let there = spotted network nodes images powers holds h q within in
       let few = downward (suc (place_of nodes q)) (place_of nodes q) (omega arith) there.within (omega (arith, root)) in
-      let few_left : length (takes_of (left q)) ≤ last_of_place (place_of nodes q) = omega (arith, few, ap (λ x. length (takes_of (left x))) there.processor) in
+      let few_left : length (takes_of (left q)) ≤ last_of_place (place_of nodes q) =
+      omega (arith, few, ap (λ x. length (takes_of (left x))) there.processor) in
       subst (λ i. Holds (λ m. m) (Whole i (power network nodes images powers holds h q).bytes) (now (plan.courses q)))
       (ap (λ x. x.image) (site-is network nodes images powers holds h q within)) ((facts q within).0.0 few_left)

@@ -6,24 +6,20 @@ ghost use Rattle.tn_load.specs.Keep.{Keep, GoesAlong, GoesOn, EndsOnce};
 /// Every pick that is enabled leaves a network under way, and takes one off the picks that are left.
 pub fn keep<N>()
     ensures law { (ops : NodeOps N) → Keep ops }
-{
-}
+{}
 
 /// So do picks one after the other.
 pub fn goes_along<N>()
     ensures law { (ops : NodeOps N) → GoesAlong ops }
-{
-}
+{}
 
 /// While picks are left, some pick is enabled.
 pub fn goes_on<N>()
     ensures law { (ops : NodeOps N) → GoesOn ops }
-{
-}
+{}
 
 /// Picks in any order end at rest exactly where they are as many as were left at first, and the state
 /// is then one and the same.
 pub fn ends_once<N>()
     ensures law { (ops : NodeOps N) → EndsOnce ops }
-{
-}
+{}

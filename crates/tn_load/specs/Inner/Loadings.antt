@@ -30,7 +30,8 @@ place_of [] p = 0
 place_of (node ∷ nodes) p = if node.processor == p then 0 else suc (place_of nodes p)
 
 -- a load tree of a network, images that fit, power-ups of the sizes of the memories, and holds at the entries
-pub record IsLoading (network : NetworkState) (nodes : List LoadNode) (images : List ImageBytes) (powers : List PowerState) (holds : HoldState) : Type 0 where
+pub record IsLoading (network : NetworkState) (nodes : List LoadNode) (images : List ImageBytes) (powers : List PowerState)
+    (holds : HoldState) : Type 0 where
   pub pairing : IsPairing network
   pub tree : IsLoadTree network nodes
   pub whole : IsWholeTree nodes (length network.sizes)
