@@ -48,3 +48,5 @@ pub mod Booting
 pub mod NetworkLaws
 pub mod Sameness
 pub mod Diamonds
+pub mod Descending
+pub mod Starting

@@ -31,3 +31,12 @@ pub record IsUnderWay {N : Type 0} (ops : NodeOps N) (network : NetworkState) (h
   pub waits : s.host.sent ≡ plan.waits
   pub keeps : s.host.kept ++ plan.keeps ≡ kept
   pub room : length kept ≤ KEPT_LIMIT
+
+-- A plan for a network whose wires are empty: what an end takes is what the other end sends, and what never
+-- comes; nothing is sent where there is no wire; no acknowledge is waited for; and there is room for what the
+-- host keeps.
+pub record FitsTogether {N : Type 0} (network : NetworkState) (missing : Far → List ℕ) (plan : Plan N) : Type 0 where
+  pub bytes : (e : Far) → IsWireEnd network e → incoming plan e ≡ outgoing plan (other_end network e) ++ missing e
+  pub wired : (p l : ℕ) → IsEnd network p l → far_at network p l ≡ Nothing → outgoing plan (Link p l) ≡ []
+  pub quiet : (e : Far) → IsWireEnd network e → waiting plan e ≡ false
+  pub room : length plan.keeps ≤ KEPT_LIMIT

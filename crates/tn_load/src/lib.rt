@@ -2,7 +2,7 @@
 #![tactic(auto)]
 
 mod laws;
-mod loads;
+mod theorems;
 
-pub use laws::{ends_once, goes_along, goes_on, keep};
-pub use loads::boots;
+pub use laws::{commute, ends_once, exchange, goes_along, goes_on, keep};
+pub use theorems::boots;
