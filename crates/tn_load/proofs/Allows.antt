@@ -1,8 +1,6 @@
 -- What a node allows that allows one kind of act only.
 use Rattle.std.proofs.Common.{◌≡◌, ◌≢◌, ℕ, ◌==◌, ◌<◌, Bool, true, false, List, Option, Some, None, refl, sym, ◌∙◌, arith}
-use Rattle.std.specs.Prelude.{◌&&◌, is_some, not, nat_lt, if◌then◌else◌, slice_index_or}
-use Rattle.std.specs.Int.{w32, to_le_bytes}
-use Rattle.std.specs.Result.{result_unwrap_or}
+use Rattle.std.specs.Prelude.{◌&&◌, is_some, not}
 use Rattle.std.proofs.lemmas.Bool.Decides.{nat_tests}
 use Rattle.tn_mem.specs.Spaces.{Access}
 use Rattle.tn_node.specs.declared.engines.Engine.{Engine}
@@ -10,7 +8,7 @@ use Rattle.tn_node.specs.declared.modes.Stage.{Stage}
 use Rattle.tn_node.specs.declared.modes.Stage.TheVariants.{Reset, Poking, Peeking, Replying, Booting, Refused, Over}
 use Rattle.tn_node.specs.Engines.{engine_of}
 use Rattle.tn_node.specs.Nodes.{NodeState, is_over}
-use Rattle.tn_node.specs.Links.{wants, is_reply, offers, output_byte, reply_byte, is_sent, awaits}
+use Rattle.tn_node.specs.Links.{wants, offers, output_byte, is_sent, awaits}
 use Rattle.tn_load.specs.Inner.NodeActs.{is_closed, all_shut, alone_at, only_at, only_steps, only_takes, only_takes_at, only_sends}
 use Rattle.tn_load.proofs.Leading.{each_link}
 

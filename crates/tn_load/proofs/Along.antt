@@ -6,14 +6,14 @@ use Rattle.tn_word.specs.Channels.{out_channel_of}
 use Rattle.tn_loader.specs.Commands.{command_bytes, forward_command, run_command, nop_command}
 use Rattle.tn_stream.specs.Branches.{Children}
 use Rattle.tn_stream.specs.Branches.Children.{none, child}
-use Rattle.tn_stream.specs.Streams.{Site, own_load, nothing, nop_of, run_of, wave, wave_below, start_part}
+use Rattle.tn_stream.specs.Streams.{Site, own_load, nothing, nop_of, run_of, wave, start_part}
 use Rattle.tn_load.specs.Acts.{Act}
 use Rattle.tn_load.specs.Acts.Act.{Step, Takes, Sends, Acks}
 use Rattle.tn_load.specs.LoneRuns.{takes_of, sends_of, is_waiting, Lone}
 use Rattle.tn_load.specs.Inner.Lives.{takes, steps, loader_acts, loads_acts, part, part_at, forwards_acts, forward_loop, nop_acts}
 use Rattle.tn_load.specs.Inner.Lives.{run_acts, life}
-use Rattle.tn_load.proofs.LoaderActs.{takes_of-append, takes_of-takes, takes_of-steps, takes_of-forwards, takes_of-run}
-use Rattle.tn_load.proofs.LoaderActs.{sends_of-append, sends_of-takes, sends_of-steps, sends_of-forwards, sends_of-run}
+use Rattle.tn_load.proofs.LoaderActs.{takes_of-append, takes_of-forwards, takes_of-run}
+use Rattle.tn_load.proofs.LoaderActs.{sends_of-append, sends_of-forwards, sends_of-run}
 use Rattle.tn_load.proofs.Answered.{Settled, settled-waits, settled-append, settled-forwards, settled-run}
 use Rattle.tn_load.proofs.Answered.Settled.{settled, stepped, took, sent_off}
 

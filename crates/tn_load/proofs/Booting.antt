@@ -1,8 +1,8 @@
 -- The loading theorem, put together.
-use Rattle.std.proofs.Common.{◌≡◌, ◌⊎◌, inl, inr, ℕ, zero, suc, ◌+◌, ◌-◌, ◌*◌, ◌<◌, ◌≤◌, Bool, true, false, List, [], ◌∷◌, length, map}
-use Rattle.std.proofs.Common.{All, get_or, replicate}
+use Rattle.std.proofs.Common.{◌≡◌, ◌⊎◌, ℕ, zero, suc, ◌+◌, ◌-◌, ◌*◌, ◌<◌, ◌≤◌, true, false, List, [], ◌∷◌, length}
+use Rattle.std.proofs.Common.{All, replicate}
 use Rattle.std.proofs.Common.{Option, Some, None, refl, sym, ap, ◌∙◌, subst, arith, append-nil, ◌++◌}
-use Rattle.std.specs.Prelude.{slice_get, slice_index, slice_index_or, option_map, ◌↔◌}
+use Rattle.std.specs.Prelude.{slice_get, slice_index, option_map, ◌↔◌}
 use Rattle.std.specs.List.{AllByRecursion}
 use Rattle.std.proofs.lemmas.List.{length-map, get_or-map}
 use Rattle.std.proofs.lemmas.List.Elements.{All-from_recursion, recursion_from_All}
@@ -14,37 +14,34 @@ use Rattle.tn_net.specs.declared.networks.Far.TheVariants.{Nothing, Host, Link}
 use Rattle.tn_net.specs.Trees.{LoadNode, IsLoadTree}
 use Rattle.tn_net.specs.WholeTrees.{IsWholeTree}
 use Rattle.tn_stream.specs.Images.{SegmentBytes, ImageBytes}
-use Rattle.tn_stream.specs.PlainImages.{end, IsPlain}
+use Rattle.tn_stream.specs.PlainImages.{end}
 use Rattle.tn_stream.specs.Lengths.{load_steps}
 use Rattle.tn_stream.specs.Streams.{stream}
 use Rattle.tn_stream.specs.LoadBranches.{no_image, whole_branch}
 use Rattle.tn_node.specs.Nodes.{NodeState}
 use Rattle.tn_network.specs.declared.picks.Pick.{Pick}
 use Rattle.tn_network.specs.Boards.{BoardState, at_node, given}
-use Rattle.tn_network.specs.Holds.{HoldState, entry_of}
+use Rattle.tn_network.specs.Holds.{entry_of}
 use Rattle.tn_network.specs.NodeOps.{stands_at}
-use Rattle.tn_network.specs.Loads.{Target, StandsIn, IsLoadedNode, AreLoadedNodes, IsLoaded}
+use Rattle.tn_network.specs.Loads.{Target, StandsIn, IsLoadedNode, IsLoaded}
 use Rattle.tn_network.specs.Nets.{memory_ops}
-use Rattle.tn_network.specs.PickLists.{AreEnabled, after, AtRest}
 use Rattle.tn_network.specs.Resets.{PowerState, AreSized, reset_board}
 use Rattle.tn_load.specs.Plans.{Course, Plan, now, picks_left, plan_behind}
 use Rattle.tn_load.specs.Keep.{Anything, UnderWay, IsRooted, IsWhole, ends_from, ended_board}
 use Rattle.tn_load.specs.Targets.{placed_all, target_of, targets_of}
-use Rattle.tn_load.specs.Boots.{image_at, no_power, power_at, AreFor, held_at, begun, Runs, Rests, state_behind, IsLive, IsOutside}
-use Rattle.tn_load.specs.Boots.{memory_at, IsTidy, IsSafe}
-use Rattle.tn_load.specs.Boots.{Loads, Boots, Loading}
-use Rattle.tn_load.specs.Inner.NodeActs.{Holds}
+use Rattle.tn_load.specs.Boots.{image_at, power_at, AreFor, held_at, begun, Runs, Rests, state_behind, IsOutside}
+use Rattle.tn_load.specs.Boots.{memory_at, IsSafe}
+use Rattle.tn_load.specs.Boots.{Loads, Loading}
 use Rattle.tn_load.specs.Inner.Lives.{LieIn}
 use Rattle.tn_load.specs.Inner.Loadings.{from_host, unsent, IsLoading}
 use Rattle.tn_load.proofs.Keeping.{along}
 use Rattle.tn_load.proofs.Ending as ending
-use Rattle.tn_load.proofs.Lives.{Whole, at_entry, length-with_segments}
 use Rattle.tn_load.proofs.Segments.{whole-rest}
 use Rattle.tn_load.proofs.Segments as segments
 use Rattle.tn_load.proofs.PlainFits.{plain-fits, plain-apart}
 use Rattle.tn_load.proofs.EndsLoaded.{whole-pieces, loaded-node, loaded-each}
 use Rattle.tn_load.proofs.TreeRuns.{size-is}
-use Rattle.tn_load.proofs.TreePlans.{IsAtEntry, IsPlanned, tree_plan, planned}
+use Rattle.tn_load.proofs.TreePlans.{IsAtEntry, tree_plan, planned}
 use Rattle.tn_load.proofs.FitTogether.{goes-under, rooted, picks-first}
 use Rattle.tn_load.proofs.WholeBefore.{whole-all}
 

@@ -37,25 +37,29 @@ module _ {N : Type 0} (ops : NodeOps N) (network : NetworkState) (holds : HoldSt
       let still : enabled ops network holds s pick ≡ false = rest pick in
       absurd (let bad : true ≡ false = sym pick_on ∙ still in cc)
   one-first (first ∷ all) plan s u on rest pick pick_on = elim (joins ops network holds Q missing kept plan s u first pick on.0 pick_on) [
-    | inl alike ↦
-        (length all, omega arith,
-        record {
-          picks = all;
-          on = subst (λ t. AreEnabled ops network holds t all) alike on.1;
-          there = ap (λ t. after ops network t all) (sym alike);
-          length = refl;
-        })
+    | inl alike ↦ (
+      length all,
+      omega arith,
+      record {
+        picks = all;
+        on = subst (λ t. AreEnabled ops network holds t all) alike on.1;
+        there = ap (λ t. after ops network t all) (sym alike);
+        length = refl;
+      },
+    )
     | inr (pick_then, first_then, swap) ↦
         let more = one-first all (plan_after network first plan) (step ops network first s)
         (keeps-on ops network holds Q missing kept plan s u first on.0) on.1 rest pick pick_then in
-        let size : length all ≡ 1 + more.0 = more.1 in
-        (suc more.0, omega (arith, size),
-        record {
-          picks = first ∷ more.2.picks;
-          on = (first_then, subst (λ t. AreEnabled ops network holds t more.2.picks) swap more.2.on);
-          there = ap (λ t. after ops network t more.2.picks) (sym swap) ∙ more.2.there;
-          length = ap suc more.2.length;
-        })
+        let size : length all ≡ 1 + more.0 = more.1 in (
+          suc more.0,
+          omega (arith, size),
+          record {
+            picks = first ∷ more.2.picks;
+            on = (first_then, subst (λ t. AreEnabled ops network holds t more.2.picks) swap more.2.on);
+            there = ap (λ t. after ops network t more.2.picks) (sym swap) ∙ more.2.there;
+            length = ap suc more.2.length;
+          },
+        )
   ]
 
   -- and so are picks
@@ -71,9 +75,11 @@ module _ {N : Type 0} (ops : NodeOps N) (network : NetworkState) (holds : HoldSt
       (subst (λ t. AtRest ops network holds t) (sym one.2.there) rest) picks_on.1 in
       let size : length all ≡ 1 + one.0 = one.1 in
       let rest_size : length one.2.picks ≡ one.0 = one.2.length in
-      let then_size : length one.2.picks ≡ length picks + then.0 = then.1 in
-      (then.0, omega (arith, size, rest_size, then_size),
-      record { picks = then.2.picks; on = then.2.on; there = then.2.there ∙ one.2.there; length = then.2.length })
+      let then_size : length one.2.picks ≡ length picks + then.0 = then.1 in (
+        then.0,
+        omega (arith, size, rest_size, then_size),
+        record { picks = then.2.picks; on = then.2.on; there = then.2.there ∙ one.2.there; length = then.2.length },
+      )
 
   module _ (all picks : List Pick) (plan : Plan N) (s : BoardState N) (u : IsUnderWay ops network holds Q missing kept plan s)
       (on : AreEnabled ops network holds s all) (rest : AtRest ops network holds (after ops network s all))
@@ -91,9 +97,10 @@ module _ {N : Type 0} (ops : NodeOps N) (network : NetworkState) (holds : HoldSt
         ap (λ ps. after ops network (after ops network s picks) ps) (sym (no_picks more.2.picks count)) ∙ more.2.there
 
     pub rests : AtRest ops network holds (after ops network s picks) ↔ (length picks ≡ length all)
-    rests =
-        (λ still. by_picks more.2.picks more.2.on more.2.length still,
-        λ full. subst (λ t. AtRest ops network holds t) (sym (same full)) rest)
+    rests = (
+      λ still. by_picks more.2.picks more.2.on more.2.length still,
+      λ full. subst (λ t. AtRest ops network holds t) (sym (same full)) rest,
+    )
       where
         by_picks : (ps : List Pick) → AreEnabled ops network holds (after ops network s picks) ps → length ps ≡ more.0
             → AtRest ops network holds (after ops network s picks) → length picks ≡ length all

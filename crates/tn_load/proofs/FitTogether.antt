@@ -1,8 +1,8 @@
 -- The plan of a load tree fits together: after power-up the network is under way in it, and it has as many
 -- picks as the tree has steps.
-use Rattle.std.proofs.Common.{◌≡◌, ℕ, zero, suc, ◌+◌, ◌*◌, ◌<◌, ◌≤◌, Bool, true, false, List, [], ◌∷◌, ◌++◌, length, map, get_or, replicate}
-use Rattle.std.proofs.Common.{Option, Some, None, refl, sym, ap, ◌∙◌, subst, arith, append-nil, length-append}
-use Rattle.std.specs.Prelude.{is_some, slice_get, slice_index_or, option_map}
+use Rattle.std.proofs.Common.{◌≡◌, ℕ, zero, suc, ◌+◌, ◌*◌, ◌<◌, false, List, [], ◌++◌, length, get_or, replicate}
+use Rattle.std.proofs.Common.{Option, Some, None, refl, sym, ap, ◌∙◌, arith, append-nil, length-append}
+use Rattle.std.specs.Prelude.{is_some, slice_get, option_map}
 use Rattle.std.proofs.lemmas.List.{length-map, length-replicate}
 use Rattle.std.proofs.lemmas.Option.{slice_get-map, slice_get-get_or}
 use Rattle.tn_net.specs.declared.networks.Far.{Far}
@@ -12,19 +12,19 @@ use Rattle.tn_net.specs.Trees.{LoadNode, node_at}
 use Rattle.tn_stream.specs.Images.{ImageBytes}
 use Rattle.tn_stream.specs.Streams.{stream}
 use Rattle.tn_stream.specs.Lengths.{load_steps}
-use Rattle.tn_stream.specs.LoadBranches.{branch_at, whole_branch}
+use Rattle.tn_stream.specs.LoadBranches.{whole_branch}
 use Rattle.tn_node.specs.Nodes.{NodeState}
-use Rattle.tn_network.specs.Boards.{BoardState, latch_at}
+use Rattle.tn_network.specs.Boards.{BoardState}
 use Rattle.tn_network.specs.Holds.{HoldState}
 use Rattle.tn_network.specs.Nets.{memory_ops}
 use Rattle.tn_network.specs.Resets.{PowerState, powered_node, reset_board}
 use Rattle.tn_load.specs.LoneRuns.{weight, is_waiting}
-use Rattle.tn_load.specs.Plans.{Course, Plan, acts_left, now, picks_left, sum_below}
-use Rattle.tn_load.specs.Shares.{IsWireEnd, other_end, taken_by, incoming, outgoing, waiting, latch_of, bytes_in}
+use Rattle.tn_load.specs.Plans.{Plan, acts_left, now, picks_left}
+use Rattle.tn_load.specs.Shares.{IsWireEnd, other_end, incoming, outgoing, waiting, latch_of, bytes_in}
 use Rattle.tn_load.specs.UnderWay.{IsUnderWay}
 use Rattle.tn_load.specs.Keep.{UnderWay, IsRooted}
 use Rattle.tn_load.specs.Inner.Lives.{acts_at}
-use Rattle.tn_load.specs.Boots.{no_power, power_at}
+use Rattle.tn_load.specs.Boots.{no_power}
 use Rattle.tn_load.specs.Inner.Loadings.{from_host, unsent, place_of, IsLoading}
 use Rattle.tn_load.proofs.Answered.{settled-life, settled-waits}
 use Rattle.tn_load.proofs.Counting.{total, total-same, sums-once}
@@ -32,8 +32,8 @@ use Rattle.tn_load.proofs.TreeCounts.{all-picks}
 use Rattle.tn_load.proofs.TreePlaces.{place-is, root-processor, under}
 use Rattle.tn_load.proofs.Onward.{follow-weaker}
 use Rattle.tn_stream.proofs.LoadBranchLaws.{parent-before}
-use Rattle.tn_load.proofs.TreeRuns.{spot, branch, power, spotted}
-use Rattle.tn_load.proofs.TreePlans.{Facts, IsPlanned, tree_plan, planned, sent-by, from_far, carried, host-gets, unwired}
+use Rattle.tn_load.proofs.TreeRuns.{branch, spotted}
+use Rattle.tn_load.proofs.TreePlans.{Facts, tree_plan, planned, from_far, carried, host-gets, unwired}
 
 abbrev no_byte : Option ℕ
 no_byte = None

@@ -1,6 +1,6 @@
 -- The lone run of a node over a space is a lone run of it in any network.
-use Rattle.std.proofs.Common.{◌≡◌, ◌≢◌, ◌⊎◌, inl, inr, ℕ, ◌==◌, ◌<◌, ◌≤◌, Bool, true, false, List, [], ◌∷◌, Option, Some, None, refl, ap}
-use Rattle.std.proofs.Common.{◌∙◌, arith}
+use Rattle.std.proofs.Common.{◌≡◌, ◌≢◌, inl, inr, ℕ, ◌==◌, ◌<◌, ◌≤◌, Bool, true, false, List, [], ◌∷◌, refl}
+use Rattle.std.proofs.Common.{arith}
 use Rattle.std.specs.Prelude.{◌&&◌, not, nat_lt}
 use Rattle.std.proofs.lemmas.Bool.Decides.{nat_tests}
 use Rattle.tn_word.specs.Words.{load_base}
@@ -9,16 +9,15 @@ use Rattle.tn_cpu.specs.declared.outcomes.Life.{Life}
 use Rattle.tn_cpu.specs.declared.outcomes.Life.TheVariants.{Running, Idle, Stopped}
 use Rattle.tn_node.specs.declared.modes.Stage.{Stage}
 use Rattle.tn_node.specs.declared.modes.Stage.TheVariants.{Reset, Poking, Peeking, Replying, Booting, Refused, Over}
-use Rattle.tn_node.specs.Nodes.{NodeState, is_over, mode_at, mode_of}
-use Rattle.tn_node.specs.Links.{wants, offers, awaits}
+use Rattle.tn_node.specs.Nodes.{NodeState, is_over, mode_of}
 use Rattle.tn_node.proofs.Awaiting.{awaits-offers}
 use Rattle.tn_network.specs.Holds.{HoldState, entry_of}
 use Rattle.tn_network.specs.NodeOps.{NodeOps, is_running as runs_in, stands_at, node_ops}
-use Rattle.tn_load.specs.Acts.{Act, Post, may_step, OffersNone, WantsNone, WantsAlone, OnlySteps, OnlyTakes, OnlySends, Does, HasEnded}
+use Rattle.tn_load.specs.Acts.{Act, Post, WantsAlone, OnlySteps, OnlyTakes, OnlySends, Does}
 use Rattle.tn_load.specs.Acts.Act.{Step, Takes, Sends, Acks}
 use Rattle.tn_load.specs.LoneRuns.{Lone}
 use Rattle.tn_load.specs.Inner.NodeActs.{is_running, is_idle, only_steps, only_takes, only_takes_at, only_sends, NodeDoes, NodeLone}
-use Rattle.tn_load.proofs.Allows.{IsMute, IsTaker, IsSender, steps-mute, takes-taker, sends-sender}
+use Rattle.tn_load.proofs.Allows.{steps-mute, takes-taker, sends-sender}
 
 both : (a b : Bool) → a && b ≡ true → (a ≡ true) × (b ≡ true)
 both true b e = (refl, e)

@@ -1,5 +1,5 @@
 -- What holds of courses goes on to hold, whatever picks were made.
-use Rattle.std.proofs.Common.{◌≡◌, ℕ, ◌==◌, ◌<◌, Bool, true, false, List, [], ◌∷◌, refl, ap, ◌∙◌}
+use Rattle.std.proofs.Common.{ℕ, ◌==◌, Bool, true, false, List, [], ◌∷◌}
 use Rattle.std.specs.Prelude.{if◌then◌else◌}
 use Rattle.tn_net.specs.declared.networks.Far.{Far}
 use Rattle.tn_net.specs.declared.networks.Far.TheVariants.{Nothing, Host, Link}

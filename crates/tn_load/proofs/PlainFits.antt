@@ -1,10 +1,10 @@
 -- A plain image is one that a processor of its memory can be loaded with.
-use Rattle.std.proofs.Common.{◌≡◌, ◌⊎◌, inl, inr, ℕ, ◌+◌, ◌<◌, ◌≤◌, List, [], ◌∷◌, length, All, arith}
+use Rattle.std.proofs.Common.{inl, inr, ℕ, ◌+◌, ◌<◌, ◌≤◌, List, [], ◌∷◌, length, arith}
 use Rattle.std.specs.List.{AllByRecursion}
 use Rattle.std.proofs.lemmas.List.Elements.{recursion_from_All}
 use Rattle.tn_stream.specs.Images.{SegmentBytes, ImageBytes}
 use Rattle.tn_stream.specs.PlainImages.{LiesIn as LiesInMemory, AreApart as AreTwoApart, AreAllApart, IsPlain}
-use Rattle.tn_load.specs.Inner.Lives.{LiesIn, LieIn, Fits}
+use Rattle.tn_load.specs.Inner.Lives.{LieIn, Fits}
 use Rattle.tn_load.proofs.Segments.{IsOutside, AreApart}
 
 lie-in : (size : ℕ) (segments : List SegmentBytes) → AllByRecursion (LiesInMemory size) segments → LieIn size segments

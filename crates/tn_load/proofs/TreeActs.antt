@@ -1,5 +1,5 @@
 -- What the processors of a load tree take and send: each what its parent sends to it, and the root the stream.
-use Rattle.std.proofs.Common.{◌≡◌, ◌≢◌, ◌⊎◌, inl, inr, ℕ, zero, suc, ◌<◌, ◌≤◌, Bool, true, false, cond, List, [], ◌∷◌, ◌++◌, length, map}
+use Rattle.std.proofs.Common.{◌≡◌, ◌≢◌, ◌⊎◌, inl, inr, ℕ, zero, suc, ◌<◌, Bool, true, false, cond, List, [], ◌∷◌, ◌++◌, length, map}
 use Rattle.std.proofs.Common.{Option, Some, None, refl, sym, ap, ◌∙◌, subst, arith}
 use Rattle.std.specs.Prelude.{nat_eq, nat_lt}
 use Rattle.std.proofs.lemmas.Bool.Decides.{nat_tests}
@@ -9,7 +9,7 @@ use Rattle.tn_stream.specs.Images.{ImageBytes}
 use Rattle.tn_stream.specs.Branches.{Children, Branch}
 use Rattle.tn_stream.specs.Branches.Children.{none, child}
 use Rattle.tn_stream.specs.Streams.{Site, stream}
-use Rattle.tn_stream.specs.LoadBranches.{hung, site_of, branch_at, whole_branch}
+use Rattle.tn_stream.specs.LoadBranches.{hung, branch_at, whole_branch}
 use Rattle.tn_stream.proofs.LoadBranchLaws.{linked, branch-is}
 use Rattle.tn_load.specs.LoneRuns.{takes_of, sends_of}
 use Rattle.tn_load.specs.Inner.Lives.{part, part_at, acts_at}

@@ -1,5 +1,5 @@
 -- The picks of all processors of a load tree, with the bytes that the host sends, are its number of steps.
-use Rattle.std.proofs.Common.{◌≡◌, ℕ, zero, suc, ◌+◌, ◌*◌, ◌<◌, ◌≤◌, List, [], ◌∷◌, ◌++◌, length, map, take, get_or}
+use Rattle.std.proofs.Common.{◌≡◌, ℕ, zero, suc, ◌+◌, ◌<◌, ◌≤◌, List, [], ◌∷◌, ◌++◌, length, map, take}
 use Rattle.std.proofs.Common.{Some, None, refl, sym, ap, ◌∙◌, arith, length-append}
 use Rattle.std.specs.Prelude.{sum_by}
 use Rattle.std.specs.List.{enumerate_from}
@@ -9,16 +9,15 @@ use Rattle.tn_net.specs.Trees.{LoadNode, node_at, children_below}
 use Rattle.tn_net.specs.WholeTrees.{IsWholeTree}
 use Rattle.tn_stream.specs.Images.{ImageBytes}
 use Rattle.tn_stream.specs.Branches.{Children, Branch}
-use Rattle.tn_stream.specs.Branches.Children.{none, child}
 use Rattle.tn_stream.specs.Streams.{Site, own_load, nothing, nop_of, run_of, wave, load_part, sync_part, start_part, stream}
 use Rattle.tn_stream.specs.LoadBranches.{hung, site_of, branch_at, whole_branch}
-use Rattle.tn_stream.specs.Lengths.{lengths_of, bytes_received, forward_steps, steps_to, node_steps, load_steps}
-use Rattle.tn_stream.proofs.LoadBranchLaws.{linked, branch-is, parent-before}
+use Rattle.tn_stream.specs.Lengths.{lengths_of, bytes_received, steps_to, node_steps, load_steps}
+use Rattle.tn_stream.proofs.LoadBranchLaws.{linked, branch-is}
 use Rattle.tn_stream.proofs.CountLaws.{numbered-more}
 use Rattle.tn_load.specs.LoneRuns.{weight}
 use Rattle.tn_load.specs.Plans.{sum_below}
-use Rattle.tn_load.specs.Inner.Lives.{part, life, acts_at}
-use Rattle.tn_load.proofs.Sums.{forwards_steps, sent_below, own_steps, sent, weight-life}
+use Rattle.tn_load.specs.Inner.Lives.{acts_at}
+use Rattle.tn_load.proofs.Sums.{forwards_steps, sent_below, sent, weight-life}
 use Rattle.tn_load.proofs.Counting.{total, total-add, total-same, counts-once}
 
 sum_by-map : {A B : Type 0} (g : B → ℕ) (f : A → B) (xs : List A) → sum_by g (map f xs) ≡ sum_by (λ x. g (f x)) xs

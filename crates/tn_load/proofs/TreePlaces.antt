@@ -1,19 +1,18 @@
 -- The places of the processors of a load tree, the links that they boot by, and what hangs at each of their links.
-use Rattle.std.proofs.Common.{◌≡◌, ◌≢◌, ◌⊎◌, inl, inr, ℕ, zero, suc, ◌+◌, ◌==◌, ◌<◌, ◌≤◌, Bool, true, false, List, [], ◌∷◌, length}
-use Rattle.std.proofs.Common.{Option, Some, None, refl, sym, ap, ◌∙◌, subst, arith}
-use Rattle.std.specs.Prelude.{nat_lt, nat_eq, if◌then◌else◌}
+use Rattle.std.proofs.Common.{◌≡◌, ◌≢◌, ◌⊎◌, inl, inr, ℕ, zero, suc, ◌==◌, ◌<◌, Bool, true, false, List, [], ◌∷◌, length}
+use Rattle.std.proofs.Common.{Some, refl, sym, ap, ◌∙◌, subst, arith}
+use Rattle.std.specs.Prelude.{nat_lt, if◌then◌else◌}
 use Rattle.std.proofs.lemmas.Bool.Decides.{nat_tests}
-use Rattle.tn_net.specs.declared.networks.Far.{Far}
-use Rattle.tn_net.specs.declared.networks.Far.TheVariants.{Nothing, Host, Link}
+use Rattle.tn_net.specs.declared.networks.Far.TheVariants.{Link}
 use Rattle.tn_net.specs.Networks.{NetworkState, IsEnd, IsPairing, far_at}
 use Rattle.tn_net.specs.Paths.{IsPath, IsLess, path_at}
-use Rattle.tn_net.specs.Trees.{LoadNode, node_at, IsLoadTree, HangsBelow, PrecedesInDictionary}
+use Rattle.tn_net.specs.Trees.{LoadNode, node_at, IsLoadTree, PrecedesInDictionary}
 use Rattle.tn_net.specs.WholeTrees.{IsWholeTree}
 use Rattle.tn_stream.specs.Images.{ImageBytes}
-use Rattle.tn_load.specs.LoneRuns.{takes_of, sends_of}
+use Rattle.tn_load.specs.LoneRuns.{sends_of}
 use Rattle.tn_load.specs.Inner.Lives.{acts_at}
 use Rattle.tn_load.specs.Inner.Loadings.{place_of}
-use Rattle.tn_load.proofs.TreeActs.{takes-sent, sends-none, child-or-none}
+use Rattle.tn_load.proofs.TreeActs.{sends-none, child-or-none}
 
 -- ---- places
 

@@ -1,8 +1,8 @@
 -- The plan of a whole network: for each processor the course of its lone run, and for the host the stream.
-use Rattle.std.proofs.Common.{◌≡◌, ◌≢◌, ◌⊎◌, inl, inr, ℕ, zero, suc, ◌+◌, ◌*◌, ◌==◌, ◌<◌, ◌≤◌, Bool, true, false, List, [], ◌∷◌, ◌++◌}
-use Rattle.std.proofs.Common.{length, map}
-use Rattle.std.proofs.Common.{Option, Some, None, refl, sym, ap, ◌∙◌, subst, arith}
-use Rattle.std.specs.Prelude.{nat_lt, not, ◌&&◌, if◌then◌else◌, slice_get, slice_index_or, replicate}
+use Rattle.std.proofs.Common.{◌≡◌, ◌≢◌, ℕ, zero, suc, ◌==◌, ◌<◌, ◌≤◌, Bool, true, false, List, []}
+use Rattle.std.proofs.Common.{length}
+use Rattle.std.proofs.Common.{None, refl, sym, ap, ◌∙◌, subst, arith}
+use Rattle.std.specs.Prelude.{nat_lt, not, ◌&&◌}
 use Rattle.std.proofs.lemmas.Bool.Decides.{nat_tests}
 use Rattle.tn_word.specs.Words.{load_base}
 use Rattle.tn_mem.specs.Memories.{plain_access}
@@ -12,32 +12,29 @@ use Rattle.tn_net.specs.Networks.{NetworkState, IsEnd, far_at}
 use Rattle.tn_net.specs.Trees.{LoadNode, node_at}
 use Rattle.tn_stream.specs.Images.{ImageBytes}
 use Rattle.tn_stream.specs.Streams.{stream}
-use Rattle.tn_stream.specs.LoadBranches.{branch_at, whole_branch}
+use Rattle.tn_stream.specs.LoadBranches.{whole_branch}
 use Rattle.tn_node.specs.Nodes.{NodeState}
 use Rattle.tn_node.specs.Links.{offers}
-use Rattle.tn_network.specs.Boards.{BoardState, latch_at}
 use Rattle.tn_network.specs.Holds.{HoldState, entry_of}
 use Rattle.tn_network.specs.Nets.{memory_ops}
-use Rattle.tn_network.specs.Resets.{PowerState, powered_node, reset_board}
+use Rattle.tn_network.specs.Resets.{PowerState, powered_node}
 use Rattle.tn_load.specs.Acts.{Act, Post, HasEnded}
-use Rattle.tn_load.specs.LoneRuns.{Lone, AreAnswered, takes_of, sends_of, is_waiting}
-use Rattle.tn_load.specs.Plans.{Moment, Course, Plan, IsCourse, acts_left, now}
-use Rattle.tn_load.specs.Shares.{IsWireEnd, other_end, taken_by, incoming, outgoing, waiting, latch_of, bytes_in}
-use Rattle.tn_load.specs.UnderWay.{IsUnderWay}
+use Rattle.tn_load.specs.LoneRuns.{Lone, AreAnswered, takes_of, sends_of}
+use Rattle.tn_load.specs.Plans.{Course, Plan, IsCourse, acts_left, now}
+use Rattle.tn_load.specs.Shares.{taken_by}
 use Rattle.tn_load.specs.Inner.Lives.{acts_at}
 use Rattle.tn_load.specs.Boots.{image_at, no_power}
 use Rattle.tn_load.specs.Inner.Loadings.{place_of, IsLoading}
 use Rattle.tn_load.proofs.Plains.{plain_is_plain}
-use Rattle.tn_load.proofs.Bootstraps.{in_reset}
 use Rattle.tn_load.proofs.Primaries.{HasTimers}
 use Rattle.tn_load.proofs.Lives.{Whole, at_entry}
 use Rattle.tn_load.proofs.Lones.{WholeBeforeStart, LoneLife}
 use Rattle.tn_load.proofs.LoneNodes.{StandsLast, lone-run}
 use Rattle.tn_load.proofs.Along.{IsAlong, last_count, last_parts, lone-with, life-along}
-use Rattle.tn_load.proofs.Answered.{settled-life, settled-waits, settled-answered}
+use Rattle.tn_load.proofs.Answered.{settled-life, settled-answered}
 use Rattle.tn_load.proofs.Courses.{moments, acts-moments, first-moments, follow}
 use Rattle.tn_load.proofs.TreeActs.{takes-sent, takes-stream}
-use Rattle.tn_load.proofs.TreePlaces.{IsPlaceOf, placed, place-is, root-place, root-processor, IsUnder, under, silent}
+use Rattle.tn_load.proofs.TreePlaces.{IsPlaceOf, place-is, root-place, root-processor, under, silent}
 use Rattle.tn_load.proofs.Leading.{each_link}
 use Rattle.tn_load.proofs.TreeRuns.{spot, branch, power, spotted, site-is, own-run}
 

@@ -1,14 +1,13 @@
 -- Before any processor stands at its entry, the images of all are whole.
-use Rattle.std.proofs.Common.{◌≡◌, ℕ, zero, suc, ◌+◌, ◌==◌, ◌<◌, ◌≤◌, Bool, true, false, List, [], ◌∷◌, ◌++◌, length}
+use Rattle.std.proofs.Common.{◌≡◌, ℕ, zero, suc, ◌+◌, ◌==◌, ◌<◌, ◌≤◌, true, List, [], ◌∷◌, ◌++◌, length}
 use Rattle.std.proofs.Common.{Option, Some, None, refl, sym, ap, ◌∙◌, subst, arith, append-nil, length-append}
-use Rattle.std.specs.Prelude.{is_some, if◌then◌else◌, slice_get}
+use Rattle.std.specs.Prelude.{is_some}
 use Rattle.std.proofs.lemmas.Bool.Decides.{nat_tests}
-use Rattle.tn_net.specs.declared.networks.Far.{Far}
-use Rattle.tn_net.specs.declared.networks.Far.TheVariants.{Nothing, Host, Link}
-use Rattle.tn_net.specs.Networks.{NetworkState, IsEnd, far_at}
+use Rattle.tn_net.specs.declared.networks.Far.TheVariants.{Link}
+use Rattle.tn_net.specs.Networks.{NetworkState, IsEnd}
 use Rattle.tn_net.specs.Trees.{LoadNode, node_at}
 use Rattle.tn_stream.specs.Images.{ImageBytes}
-use Rattle.tn_stream.specs.Streams.{nothing, run_of, wave, start_part}
+use Rattle.tn_stream.specs.Streams.{nothing, run_of, wave}
 use Rattle.tn_stream.specs.LoadBranches.{branch_at}
 use Rattle.tn_stream.proofs.LoadBranchLaws.{parent-before}
 use Rattle.tn_node.specs.Nodes.{NodeState}
@@ -21,7 +20,7 @@ use Rattle.tn_network.specs.Resets.{PowerState}
 use Rattle.tn_load.specs.Acts.{Act, Post}
 use Rattle.tn_load.specs.LoneRuns.{takes_of, sends_of, is_waiting}
 use Rattle.tn_load.specs.Plans.{Moment, Course, Plan, Follow, IsCourse, now, acts_of, acts_left, first_node, plan_behind}
-use Rattle.tn_load.specs.Shares.{taken_by, latch_of, bytes_in, outgoing, waiting, incoming}
+use Rattle.tn_load.specs.Shares.{latch_of, bytes_in, outgoing, waiting, incoming}
 use Rattle.tn_load.specs.Keep.{UnderWay}
 use Rattle.tn_load.specs.Inner.NodeActs.{Holds}
 use Rattle.tn_load.specs.Boots.{image_at}
@@ -32,8 +31,8 @@ use Rattle.tn_load.proofs.LoneNodes.{StandsLast}
 use Rattle.tn_load.proofs.Onward.{behind-kept, course-goes}
 use Rattle.tn_load.proofs.TreeActs.{part-sent}
 use Rattle.tn_load.proofs.TreePlaces.{place-is, IsUnder, under}
-use Rattle.tn_load.proofs.TreeRuns.{branch, power, site-is, spotted}
-use Rattle.tn_load.proofs.TreePlans.{Facts, IsPlanned, tree_plan, planned}
+use Rattle.tn_load.proofs.TreeRuns.{power, site-is, spotted}
+use Rattle.tn_load.proofs.TreePlans.{Facts, tree_plan, planned}
 
 -- what holds of the node that a course has come to
 fact_now : {N : Type 0} (ops : _) (post : Post) (Q : N → List Act → Type 0) (moments : List (Moment N)) (end : N)

@@ -1,5 +1,5 @@
 -- What is loaded into a network: a load tree of it, and for each processor an image that its memory can hold.
-use Rattle.std.specs.Prelude.{◌≡◌, ℕ, zero, suc, ◌<◌, ◌≤◌, ◌==◌, List, [], ◌∷◌, length, slice_index, true, if◌then◌else◌}
+use Rattle.std.specs.Prelude.{◌≡◌, ℕ, suc, ◌<◌, ◌≤◌, ◌==◌, List, [], ◌∷◌, length, slice_index, true, if◌then◌else◌}
 use Rattle.tn_word.specs.Words.{load_base}
 use Rattle.tn_net.specs.Networks.{NetworkState, IsPairing, far_at}
 use Rattle.tn_net.specs.declared.networks.Far.{Far}
