@@ -5,4 +5,4 @@ mod laws;
 mod theorems;
 
 pub use laws::{commute, ends_once, exchange, goes_along, goes_on, keep};
-pub use theorems::boots;
+pub use theorems::{boots, boots_one};
