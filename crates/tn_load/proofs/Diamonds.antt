@@ -1,16 +1,15 @@
 -- Two enabled picks are the same act, or neither minds the other.
-use Rattle.std.proofs.Common.{◌≡◌, ◌≢◌, ℕ, zero, suc, ◌+◌, ◌<◌, ◌==◌, ◌⊎◌, inl, inr, Bool, true, false, List, [], ◌∷◌, length, Option}
-use Rattle.std.proofs.Common.{Some, None, refl, sym, ap, subst, ◌∙◌, arith}
+use Rattle.std.proofs.Common.{◌≡◌, ◌≢◌, ℕ, zero, suc, ◌+◌, ◌<◌, ◌==◌, ◌⊎◌, inl, inr, Bool, true, false, List, ◌∷◌, Option, Some, None, refl, sym, ap, subst, ◌∙◌, arith}
 use Rattle.std.specs.Prelude.{slice_get, slice_set, is_some, if◌then◌else◌, nat_lt, ◌&&◌, ◌^◌, not}
 use Rattle.std.proofs.lemmas.Bool.{cases_eq}
 use Rattle.std.proofs.lemmas.Bool.Decides.{nat_tests}
 use Rattle.tn_net.specs.declared.networks.Far.{Far}
 use Rattle.tn_net.specs.declared.networks.Far.TheVariants.{Nothing, Host, Link}
-use Rattle.tn_net.specs.Networks.{NetworkState, IsEnd, far_at}
+use Rattle.tn_net.specs.Networks.{NetworkState, far_at}
 use Rattle.tn_network.specs.declared.picks.Pick.{Pick}
 use Rattle.tn_network.specs.declared.picks.Pick.TheVariants.{HostSend, HostTake, Proc, Send, Take}
 use Rattle.tn_network.specs.Hosts.{other_bytes}
-use Rattle.tn_network.specs.Boards.{BoardState, at_node, changed, latch_at}
+use Rattle.tn_network.specs.Boards.{BoardState, at_node, changed}
 use Rattle.tn_network.specs.NodeOps.{NodeOps}
 use Rattle.tn_network.specs.Holds.{HoldState, entry_of, enabled}
 use Rattle.tn_network.specs.Steps.{step}
@@ -19,17 +18,17 @@ use Rattle.tn_load.specs.Acts.{Act}
 use Rattle.tn_load.specs.Acts.Act.{Step, Takes, Sends, Acks}
 use Rattle.tn_load.specs.LoneRuns.{is_waiting}
 use Rattle.tn_load.specs.Plans.{Course, Plan, now, acts_left, behind, advanced, advanced_at, plan_after}
-use Rattle.tn_load.specs.Shares.{waiting, latch_of}
+use Rattle.tn_load.specs.Shares.{waiting}
 use Rattle.tn_load.specs.UnderWay.{IsUnderWay}
 use Rattle.tn_load.specs.Exchange.{Joins}
-use Rattle.tn_load.proofs.Going.{Goes, goes-acknowledge, advanced-here, advanced-other}
+use Rattle.tn_load.proofs.Going.{Goes, goes-acknowledge, advanced-other}
 use Rattle.tn_load.proofs.OnePick.{both, step-goes, Sending, send-goes}
 use Rattle.tn_load.proofs.Taking.{Taking, take-goes}
 use Rattle.tn_load.proofs.Hosting.{HostSending, host_send-goes, HostTaking, host_take-goes}
 use Rattle.tn_load.proofs.Enabling.{step-enabled, send-enabled, take-enabled, host_send-enabled, host_take-enabled}
 use Rattle.tn_load.proofs.Keeping.{keeps-on}
 use Rattle.tn_load.proofs.Latches.{cases_far}
-use Rattle.tn_load.proofs.Sameness.{SamePlan, same-state}
+use Rattle.tn_load.proofs.Sameness.{same-state}
 
 -- ---- plans, whatever the order
 
@@ -62,8 +61,7 @@ far_hit Nothing q = 0
 far_hit Host q = 0
 far_hit (Link p l) q = hit p q
 
-advanced_at-hit : {N : Type 0} (far : Far) (plan : Plan N) (q : ℕ)
-    → (advanced_at far plan).courses q ≡ behinds (far_hit far q) (plan.courses q)
+advanced_at-hit : {N : Type 0} (far : Far) (plan : Plan N) (q : ℕ) → (advanced_at far plan).courses q ≡ behinds (far_hit far q) (plan.courses q)
 unfolding behinds far_hit
 advanced_at-hit Nothing plan q = refl
 advanced_at-hit Host plan q = refl
@@ -93,8 +91,7 @@ pub courses-swap : {N : Type 0} (network : NetworkState) (one two : Pick) (plan 
 courses-swap network one two plan q =
     after-hits network two (plan_after network one plan) q ∙ ap (λ c. behinds (hits network two q) c) (after-hits network one plan q)
     ∙ behinds-swap (hits network two q) (hits network one q) (plan.courses q)
-    ∙ ap (λ c. behinds (hits network one q) c) (sym (after-hits network two plan q))
-    ∙ sym (after-hits network one (plan_after network two plan) q)
+    ∙ ap (λ c. behinds (hits network one q) c) (sym (after-hits network two plan q)) ∙ sym (after-hits network one (plan_after network two plan) q)
 
 at-sends : {N : Type 0} (far : Far) (plan : Plan N) → (advanced_at far plan).sends ≡ plan.sends
 at-sends Nothing plan = refl
@@ -251,8 +248,10 @@ module _ {N : Type 0} (ops : NodeOps N) (network : NetworkState) (holds : HoldSt
   sends-part (Take p l) on h =
       let k : Taking ops network holds Q missing kept plan s u p l = take-goes ops network holds Q missing kept plan s u p l on in
       let apart : far_at network p l ≢ Host = λ is. true_false plan.waits (ap (waiting plan) (sym is) ∙ k.sender) h.free in
-      inr (at-sends (far_at network p l) (record plan { courses = advanced p plan.courses }),
-      at-waits (far_at network p l) (record plan { courses = advanced p plan.courses }) apart)
+      inr (
+        at-sends (far_at network p l) (record plan { courses = advanced p plan.courses }),
+        at-waits (far_at network p l) (record plan { courses = advanced p plan.courses }) apart,
+      )
 
   waits-part : (one : Pick) → enabled ops network holds s one ≡ true → (p l : ℕ) → Taking ops network holds Q missing kept plan s u p l
       → far_at network p l ≡ Host → Alike one (Take p l) ⊎ ((plan_after network one plan).waits ≡ plan.waits)
@@ -490,20 +489,22 @@ module _ {N : Type 0} (ops : NodeOps N) (network : NetworkState) (holds : HoldSt
     | inl alike ↦ inl alike
     | inr two_then ↦ elim (stays two two_on one one_on) [
       | inl alike ↦ inl (sym alike)
-      | inr one_then ↦ inr
-          (two_then, one_then,
-          same-state ops network holds Q missing kept (plan_after network one (plan_after network two plan))
-          (plan_after network two (plan_after network one plan)) (step ops network one (step ops network two s))
-          (step ops network two (step ops network one s))
-          (keeps-on ops network holds Q missing kept (plan_after network two plan) (step ops network two s)
-          (keeps-on ops network holds Q missing kept plan s u two two_on) one one_then)
-          (keeps-on ops network holds Q missing kept (plan_after network one plan) (step ops network one s)
-          (keeps-on ops network holds Q missing kept plan s u one one_on) two two_then)
-          (record {
-            courses = λ q. courses-swap network one two plan q;
-            sends = sends-swap one two;
-            waits = waits-swap one two one_on two_on;
-            keeps = keeps-swap one two;
-          }))
+      | inr one_then ↦ inr (
+        two_then,
+        one_then,
+        same-state ops network holds Q missing kept (plan_after network one (plan_after network two plan))
+            (plan_after network two (plan_after network one plan)) (step ops network one (step ops network two s))
+            (step ops network two (step ops network one s))
+            (keeps-on ops network holds Q missing kept (plan_after network two plan) (step ops network two s)
+            (keeps-on ops network holds Q missing kept plan s u two two_on) one one_then)
+            (keeps-on ops network holds Q missing kept (plan_after network one plan) (step ops network one s)
+            (keeps-on ops network holds Q missing kept plan s u one one_on) two two_then)
+            (record {
+              courses = λ q. courses-swap network one two plan q;
+              sends = sends-swap one two;
+              waits = waits-swap one two one_on two_on;
+              keeps = keeps-swap one two;
+            }),
+      )
     ]
   ]

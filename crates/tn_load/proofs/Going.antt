@@ -1,12 +1,11 @@
 -- How a course goes on: what a node allows is the first act of what is left.
-use Rattle.std.proofs.Common.{◌≡◌, ◌≢◌, ℕ, ◌<◌, ◌==◌, ◌⊎◌, inl, inr, Bool, true, false, List, [], ◌∷◌, Some, None, refl, sym, ap, subst}
-use Rattle.std.proofs.Common.{◌∙◌, arith}
+use Rattle.std.proofs.Common.{◌≡◌, ◌≢◌, ℕ, ◌<◌, ◌==◌, inl, inr, Bool, true, false, List, [], ◌∷◌, Some, None, refl, sym, ap, subst, ◌∙◌, arith}
 use Rattle.std.specs.Prelude.{if◌then◌else◌}
 use Rattle.std.proofs.lemmas.Bool.{cases_eq}
 use Rattle.std.proofs.lemmas.Bool.Decides.{nat_tests}
 use Rattle.tn_network.specs.NodeOps.{NodeOps}
 use Rattle.tn_network.specs.Holds.{HoldState}
-use Rattle.tn_load.specs.Acts.{Act, Post, Does, HasEnded, may_step}
+use Rattle.tn_load.specs.Acts.{Act, Post, Does, may_step}
 use Rattle.tn_load.specs.Acts.Act.{Step, Takes, Sends, Acks}
 use Rattle.tn_load.specs.LoneRuns.{takes_of, is_sending, is_waiting, AreAnswered}
 use Rattle.tn_load.specs.Plans.{Moment, Course, first_node, now, acts_of, acts_left, Follow, IsCourse, later, behind, advanced}
@@ -118,8 +117,7 @@ acks-next (m ∷ ms) l is = ap (λ a. a ∷ acts_of ms) (waiting_for m.act (acts
 -- ---- a course
 
 -- what its first act leads to
-pub record Goes {N : Type 0} (ops : NodeOps N) (holds : HoldState) (Q : ℕ → N → List Act → Type 0) (p : ℕ) (c : Course N) (act : Act) :
-    Type 0 where
+pub record Goes {N : Type 0} (ops : NodeOps N) (holds : HoldState) (Q : ℕ → N → List Act → Type 0) (p : ℕ) (c : Course N) (act : Act) : Type 0 where
   pub is : acts_left c ≡ act ∷ acts_left (behind c)
   pub does : Does ops (record { holds = holds; processor = p; boot = c.boot }) act (now c) (now (behind c))
   pub course : IsCourse ops holds Q p (behind c)

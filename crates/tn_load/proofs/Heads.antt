@@ -1,15 +1,12 @@
 -- What the first act of a course does to the bytes that its processor still takes and sends.
-use Rattle.std.proofs.Common.{◌≡◌, ◌≢◌, ℕ, ◌+◌, ◌==◌, ◌⊎◌, inl, inr, Bool, true, false, List, [], ◌∷◌, length, Some, None, refl, sym, ap}
-use Rattle.std.proofs.Common.{subst, ◌∙◌, arith}
+use Rattle.std.proofs.Common.{◌≡◌, ◌≢◌, ℕ, ◌==◌, true, false, List, [], ◌∷◌, refl, sym, ap, ◌∙◌}
 use Rattle.std.specs.Prelude.{if◌then◌else◌}
-use Rattle.std.proofs.lemmas.Bool.{cases_eq}
-use Rattle.tn_net.specs.declared.networks.Far.{Far}
-use Rattle.tn_net.specs.declared.networks.Far.TheVariants.{Nothing, Host, Link}
+use Rattle.tn_net.specs.declared.networks.Far.TheVariants.{Link}
 use Rattle.tn_network.specs.NodeOps.{NodeOps}
 use Rattle.tn_network.specs.Holds.{HoldState}
 use Rattle.tn_load.specs.Acts.{Act}
 use Rattle.tn_load.specs.Acts.Act.{Step, Takes, Sends, Acks}
-use Rattle.tn_load.specs.LoneRuns.{takes_of, sends_of, weight, is_waiting}
+use Rattle.tn_load.specs.LoneRuns.{takes_of, sends_of, is_waiting}
 use Rattle.tn_load.specs.Plans.{Course, acts_left, behind, advanced}
 use Rattle.tn_load.specs.Shares.{taken_by}
 use Rattle.tn_load.proofs.Going.{Goes, same_number, other_number, each-advanced, advanced-here}

@@ -19,17 +19,19 @@ goes_on ops network holds missing kept plan s u rooted whole some =
     ending.goes_on ops network holds Anything missing kept plan s u rooted whole some
 
 pub ends_once : {N : Type 0} (ops : NodeOps N) → EndsOnce ops
-ends_once ops network holds missing kept plan s picks u rooted whole on =
-    (ending.at_most ops network holds Anything missing kept plan s picks u rooted whole on,
-    ending.rests ops network holds Anything missing kept plan s picks u rooted whole on,
-    ending.one_end ops network holds Anything missing kept plan s picks u rooted whole on)
+ends_once ops network holds missing kept plan s picks u rooted whole on = (
+  ending.at_most ops network holds Anything missing kept plan s picks u rooted whole on,
+  ending.rests ops network holds Anything missing kept plan s picks u rooted whole on,
+  ending.one_end ops network holds Anything missing kept plan s picks u rooted whole on,
+)
 
 pub commute : {N : Type 0} (ops : NodeOps N) → Commute ops
 commute ops network holds missing kept plan s one two u one_on two_on =
     joins ops network holds Anything missing kept plan s u one two one_on two_on
 
 pub exchange : {N : Type 0} (ops : NodeOps N) → Exchange ops
-exchange ops network holds missing kept plan s all picks u on rest picks_on =
-    (descending.at_most ops network holds Anything missing kept all picks plan s u on rest picks_on,
-    descending.rests ops network holds Anything missing kept all picks plan s u on rest picks_on,
-    descending.same ops network holds Anything missing kept all picks plan s u on rest picks_on)
+exchange ops network holds missing kept plan s all picks u on rest picks_on = (
+  descending.at_most ops network holds Anything missing kept all picks plan s u on rest picks_on,
+  descending.rests ops network holds Anything missing kept all picks plan s u on rest picks_on,
+  descending.same ops network holds Anything missing kept all picks plan s u on rest picks_on,
+)

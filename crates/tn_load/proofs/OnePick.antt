@@ -1,36 +1,23 @@
 -- What an enabled step or sending is of the courses; and lists of nodes and courses, one of which goes on.
-use Rattle.std.proofs.Common.{◌≡◌, ◌≢◌, ℕ, suc, ◌+◌, ◌*◌, ◌<◌, ◌≤◌, ◌==◌, ◌⊎◌, inl, inr, Bool, true, false, List, [], ◌∷◌, ◌++◌, length}
-use Rattle.std.proofs.Common.{Option, Some, None, refl, sym, ap, subst, ◌∙◌, arith}
-use Rattle.std.specs.Prelude.{slice_get, slice_set, is_some, unwrap_or, nat_lt, ◌&&◌, ◌^◌, not}
-use Rattle.std.proofs.Math.ListN.{length-set}
-use Rattle.std.proofs.lemmas.Bool.{cases_eq}
+use Rattle.std.proofs.Common.{◌≡◌, ℕ, ◌+◌, ◌*◌, ◌<◌, Bool, true, false, List, length, Some, None, refl, sym, ap, ◌∙◌, arith}
+use Rattle.std.specs.Prelude.{slice_get, is_some, nat_lt, ◌&&◌, ◌^◌, not}
 use Rattle.std.proofs.lemmas.Bool.Decides.{nat_tests}
 use Rattle.std.proofs.lemmas.Option.{slice_get_within}
-use Rattle.std.proofs.lemmas.List.{length-append, append_assoc}
 use Rattle.tn_net.specs.declared.networks.Far.{Far}
-use Rattle.tn_net.specs.declared.networks.Far.TheVariants.{Nothing, Host, Link}
-use Rattle.tn_net.specs.Networks.{NetworkState, IsEnd, IsPairing, far_at}
-use Rattle.tn_network.specs.declared.picks.Pick.{Pick}
-use Rattle.tn_network.specs.declared.picks.Pick.TheVariants.{HostSend, HostTake, Proc, Send, Take}
-use Rattle.tn_network.specs.Hosts.{HostState, next_byte, other_bytes, kept_with}
-use Rattle.tn_network.specs.Boards.{BoardState, given, at_node, changed, latch_at}
+use Rattle.tn_net.specs.Networks.{NetworkState, IsEnd, far_at}
+use Rattle.tn_network.specs.declared.picks.Pick.TheVariants.{Proc, Send}
+use Rattle.tn_network.specs.Boards.{BoardState, given, at_node, changed}
 use Rattle.tn_network.specs.NodeOps.{NodeOps}
 use Rattle.tn_network.specs.Holds.{HoldState, entry_of, enabled}
-use Rattle.tn_network.specs.Steps.{is_wired, offered, step, latched, host_latched, nodes_acknowledged, host_acknowledged}
-use Rattle.tn_network.proofs.NodeLists.{slice_get-changed_other, slice_get-changed_same, length-changed, at_node-met, at_node-given}
-use Rattle.tn_network.proofs.NodeLists.{latch-set_same, latch-set_other}
-use Rattle.tn_load.specs.Acts.{Act, Post, may_step}
-use Rattle.tn_load.specs.Acts.Act.{Step, Takes, Sends, Acks}
-use Rattle.tn_load.specs.LoneRuns.{sends_of, is_waiting}
-use Rattle.tn_load.specs.Plans.{Course, Plan, IsCourse, now, acts_left, behind, advanced, advanced_at, plan_after}
-use Rattle.tn_load.specs.Shares.{IsWireEnd, other_end, taken_by, incoming, outgoing, waiting, latch_of, bytes_in}
+use Rattle.tn_network.specs.Steps.{is_wired, offered}
+use Rattle.tn_network.proofs.NodeLists.{slice_get-changed_other, slice_get-changed_same, at_node-met, at_node-given}
+use Rattle.tn_load.specs.Acts.{Act, may_step}
+use Rattle.tn_load.specs.Acts.Act.{Step, Sends}
+use Rattle.tn_load.specs.Plans.{Course, Plan, IsCourse, now, behind, advanced}
+use Rattle.tn_load.specs.Shares.{IsWireEnd}
 use Rattle.tn_load.specs.UnderWay.{IsUnderWay}
-use Rattle.tn_load.proofs.Going.{Goes, goes-step, goes-send, goes-take, goes-acknowledge, advanced-here, advanced-other, each-advanced}
-use Rattle.tn_load.proofs.Latches.{cases_far, empty-latch, full-latch, other_end-twice, Fits, fits-same, Sent, fits-sent, Taken, fits-taken}
-use Rattle.tn_load.proofs.Heads.{step-takes, step-sends, step-waits, send-takes, send-here, send-else, send-free, send-waits}
-use Rattle.tn_load.proofs.Heads.{send-waits_else}
-use Rattle.tn_load.proofs.Heads.{take-here, take-else, take-sends, take-waits, acknowledge-takes, acknowledge-sends}
-use Rattle.tn_load.proofs.Heads.{acknowledge-free, acknowledge-else}
+use Rattle.tn_load.proofs.Going.{Goes, goes-step, goes-send, each-advanced}
+use Rattle.tn_load.proofs.Latches.{full-latch, Fits}
 
 pub both : (a b : Bool) → (a && b) ≡ true → (a ≡ true) × (b ≡ true)
 both true b h = (refl, h)

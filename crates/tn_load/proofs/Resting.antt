@@ -1,6 +1,5 @@
 -- Progress: while picks are left some pick is enabled.
-use Rattle.std.proofs.Common.{◌≡◌, ◌≢◌, ℕ, zero, suc, ◌+◌, ◌*◌, ◌<◌, ◌≤◌, ◌==◌, ◌⊎◌, inl, inr, Bool, true, false, List, [], ◌∷◌, ◌++◌}
-use Rattle.std.proofs.Common.{length, Option, Some, None, refl, sym, ap, subst, ◌∙◌, arith, length-append}
+use Rattle.std.proofs.Common.{◌≡◌, ℕ, zero, suc, ◌+◌, ◌<◌, ◌==◌, ◌⊎◌, inl, inr, Bool, true, false, List, [], ◌∷◌, ◌++◌, length, Option, Some, None, refl, sym, ap, ◌∙◌, arith}
 use Rattle.std.specs.Prelude.{is_some, if◌then◌else◌}
 use Rattle.std.proofs.lemmas.Bool.{cases_eq}
 use Rattle.tn_net.specs.declared.networks.Far.{Far}
@@ -13,13 +12,13 @@ use Rattle.tn_network.specs.NodeOps.{NodeOps}
 use Rattle.tn_network.specs.Holds.{HoldState, enabled}
 use Rattle.tn_load.specs.Acts.{Act}
 use Rattle.tn_load.specs.Acts.Act.{Step, Takes, Sends, Acks}
-use Rattle.tn_load.specs.LoneRuns.{takes_of, sends_of, is_waiting, weight}
-use Rattle.tn_load.specs.Plans.{Course, Moment, Plan, acts_of, acts_left, behind, later, picks_left, sum_below}
+use Rattle.tn_load.specs.LoneRuns.{takes_of, sends_of, is_waiting}
+use Rattle.tn_load.specs.Plans.{Course, Moment, Plan, acts_of, acts_left, behind, later}
 use Rattle.tn_load.specs.Shares.{IsWireEnd, other_end, taken_by, incoming, outgoing, waiting, latch_of, bytes_in}
 use Rattle.tn_load.specs.UnderWay.{IsUnderWay}
 use Rattle.tn_load.specs.Keep.{IsRooted, IsWhole}
-use Rattle.tn_load.proofs.Going.{Goes, goes, goes-acknowledge, same_number, other_number}
-use Rattle.tn_load.proofs.Latches.{empty-latch, full-latch}
+use Rattle.tn_load.proofs.Going.{Goes, goes, same_number, other_number}
+use Rattle.tn_load.proofs.Latches.{full-latch}
 use Rattle.tn_load.proofs.Enabling.{step-enabled, send-enabled, take-enabled, host_send-enabled, host_take-enabled}
 
 -- ---- what is left, or nothing
@@ -35,8 +34,7 @@ left_or_not {N = N} c = go c.moments
 takes-left : {N : Type 0} (c : Course N) (l byte : ℕ) (bytes : List ℕ) → taken_by l c ≡ byte ∷ bytes → acts_left c ≡ [] → ⊥
 unfolding takes_of
 takes-left c l byte bytes is none =
-    let empty : (if l == c.boot then takes_of [] else []) ≡ byte ∷ bytes =
-    sym (ap (λ a. if l == c.boot then takes_of a else []) none) ∙ is in
+    let empty : (if l == c.boot then takes_of [] else []) ≡ byte ∷ bytes = sym (ap (λ a. if l == c.boot then takes_of a else []) none) ∙ is in
     go (l == c.boot) empty
   where
     go : (test : Bool) → (if test then [] else []) ≡ byte ∷ bytes → ⊥
@@ -113,8 +111,7 @@ module _ {N : Type 0} (ops : NodeOps N) (network : NetworkState) (holds : HoldSt
       rooted.falls q p l there.processor (ap (λ k. far_at network q k) (sym boots) ∙ back) in
       elim (left_or_not (plan.courses q)) [
         | inl none ↦ absurd (takes-left (plan.courses q) m byte.0 rest takes none)
-        | inr (act, is_act) ↦ down_act fuel q m again there (omega (arith, falls, much)) boots full act
-            (goes_at q there.processor act is_act)
+        | inr (act, is_act) ↦ down_act fuel q m again there (omega (arith, falls, much)) boots full act (goes_at q there.processor act is_act)
       ]
 
   down : (fuel : ℕ) → Down fuel

@@ -1,18 +1,17 @@
 -- A network under way is in the one state that its plan tells.
-use Rattle.std.proofs.Common.{◌≡◌, ℕ, zero, suc, ◌+◌, ◌*◌, ◌/◌, ◌%◌, ◌<◌, List, [], ◌∷◌, ◌++◌, length, Option, Some, None, refl, sym, ap}
-use Rattle.std.proofs.Common.{subst, ◌∙◌, arith}
-use Rattle.std.specs.Prelude.{Bool, slice_get, slice_index_or}
+use Rattle.std.proofs.Common.{◌≡◌, ℕ, suc, ◌+◌, ◌*◌, ◌/◌, ◌%◌, ◌<◌, List, [], ◌∷◌, ◌++◌, length, Option, Some, None, refl, sym, ap, subst, ◌∙◌, arith}
+use Rattle.std.specs.Prelude.{slice_get, slice_index_or}
 use Rattle.std.proofs.lemmas.List.{append_cancel_right}
 use Rattle.std.proofs.lemmas.Option.{same_Some}
 use Rattle.tn_net.specs.declared.networks.Far.{Far}
 use Rattle.tn_net.specs.declared.networks.Far.TheVariants.{Nothing, Host, Link}
 use Rattle.tn_net.specs.Networks.{NetworkState, IsEnd}
-use Rattle.tn_network.specs.Boards.{BoardState, latch_at}
+use Rattle.tn_network.specs.Boards.{BoardState}
 use Rattle.tn_network.specs.NodeOps.{NodeOps}
 use Rattle.tn_network.specs.Holds.{HoldState}
 use Rattle.tn_load.specs.Acts.{Act}
 use Rattle.tn_load.specs.LoneRuns.{sends_of}
-use Rattle.tn_load.specs.Plans.{Course, Plan, now, acts_left}
+use Rattle.tn_load.specs.Plans.{Plan, now, acts_left}
 use Rattle.tn_load.specs.Shares.{IsWireEnd, other_end, taken_by, incoming, outgoing, latch_of, bytes_in}
 use Rattle.tn_load.specs.UnderWay.{IsUnderWay}
 use Rattle.tn_load.proofs.Ending.{same_host, same_board}
@@ -69,8 +68,7 @@ module _ {N : Type 0} (ops : NodeOps N) (network : NetworkState) (holds : HoldSt
   latch e place =
       same_latch (latch_of t e) (latch_of s e)
       (append_cancel_right (bytes_in (latch_of t e)) (bytes_in (latch_of s e)) (outgoing plan (other_end network e) ++ missing e)
-      (ap (λ bs. bytes_in (latch_of t e) ++ (bs ++ missing e)) (sym (goes (other_end network e))) ∙ sym (v.bytes e place) ∙ comes e
-      ∙ u.bytes e place))
+      (ap (λ bs. bytes_in (latch_of t e) ++ (bs ++ missing e)) (sym (goes (other_end network e))) ∙ sym (v.bytes e place) ∙ comes e ∙ u.bytes e place))
 
   nodes : t.nodes ≡ s.nodes
   nodes =

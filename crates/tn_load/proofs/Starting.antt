@@ -1,18 +1,17 @@
 -- How a network comes under way: lone runs make courses, and wires are empty at first.
-use Rattle.std.proofs.Common.{◌≡◌, ℕ, zero, suc, ◌+◌, ◌*◌, ◌<◌, inl, inr, Bool, true, false, List, [], ◌∷◌, ◌++◌, length, replicate, Option, Some, None, refl, sym, ap, subst, ◌∙◌, arith}
+use Rattle.std.proofs.Common.{◌≡◌, ℕ, zero, suc, ◌+◌, ◌*◌, ◌<◌, inl, inr, false, List, [], ◌∷◌, ◌++◌, length, replicate, Option, Some, None, refl, sym, ap, subst, ◌∙◌}
 use Rattle.std.specs.Prelude.{slice_get, slice_index_or, is_some}
 use Rattle.std.proofs.lemmas.List.{length-replicate}
 use Rattle.tn_net.specs.declared.networks.Far.{Far}
 use Rattle.tn_net.specs.declared.networks.Far.TheVariants.{Nothing, Host, Link}
-use Rattle.tn_net.specs.Networks.{NetworkState, IsEnd, IsPairing, far_at}
-use Rattle.tn_network.specs.Boards.{BoardState}
+use Rattle.tn_net.specs.Networks.{NetworkState, IsPairing}
 use Rattle.tn_network.specs.NodeOps.{NodeOps}
 use Rattle.tn_network.specs.Holds.{HoldState}
 use Rattle.tn_network.specs.Resets.{new_board}
 use Rattle.tn_load.specs.Acts.{Act, Post, Does, HasEnded}
 use Rattle.tn_load.specs.LoneRuns.{Lone, AreAnswered}
 use Rattle.tn_load.specs.Plans.{Moment, Course, Plan, IsCourse, Follow, first_node, now, acts_of, acts_left}
-use Rattle.tn_load.specs.Shares.{IsWireEnd, other_end, incoming, outgoing, waiting, latch_of, bytes_in}
+use Rattle.tn_load.specs.Shares.{IsWireEnd, other_end, outgoing, waiting, latch_of, bytes_in}
 use Rattle.tn_load.specs.UnderWay.{IsUnderWay, FitsTogether}
 use Rattle.tn_load.proofs.Latches.{other_end-twice, cases_far}
 
@@ -39,10 +38,11 @@ module _ {N : Type 0} (ops : NodeOps N) (post : Post) (Q : N → List Act → Ty
   follow-moments [] n end run ended = (subst (λ m. Q m []) run.1 run.0, ended)
   follow-moments (act ∷ acts) n end run ended =
       let t = run.1.0 in
-      let rest = run.1.1.1 in
-      (subst (λ a. Q n (act ∷ a)) (sym (acts-moments acts t end rest)) run.0,
-      subst (λ m. Does ops post act n m) (sym (first-moments acts t end rest)) run.1.1.0,
-      follow-moments acts t end rest ended)
+      let rest = run.1.1.1 in (
+        subst (λ a. Q n (act ∷ a)) (sym (acts-moments acts t end rest)) run.0,
+        subst (λ m. Does ops post act n m) (sym (first-moments acts t end rest)) run.1.1.0,
+        follow-moments acts t end rest ended,
+      )
 
 module _ {N : Type 0} (ops : NodeOps N) (holds : HoldState) (Q : ℕ → N → List Act → Type 0) (p boot : ℕ) where
   abbrev pub post_of : Post

@@ -1,6 +1,6 @@
 -- What of the bytes each wire carries in a plan: those that an end still takes, those that it still sends,
 -- and that in its latch.
-use Rattle.std.specs.Prelude.{ℕ, ◌==◌, Bool, true, false, List, [], ◌∷◌, Option, Some, None, if◌then◌else◌}
+use Rattle.std.specs.Prelude.{ℕ, ◌==◌, Bool, false, List, [], ◌∷◌, Option, Some, None, if◌then◌else◌}
 use Rattle.tn_net.specs.declared.networks.Far.{Far}
 use Rattle.tn_net.specs.declared.networks.Far.TheVariants.{Nothing, Host, Link}
 use Rattle.tn_net.specs.Networks.{NetworkState, IsEnd, far_at}

@@ -1,7 +1,7 @@
 -- A network under way: its state is that of a plan.
-use Rattle.std.specs.Prelude.{◌≡◌, ℕ, ◌+◌, ◌*◌, ◌<◌, ◌≤◌, false, List, [], ◌++◌, length, Some, is_some, slice_get}
+use Rattle.std.specs.Prelude.{◌≡◌, ℕ, ◌*◌, ◌<◌, ◌≤◌, false, List, [], ◌++◌, length, Some, is_some, slice_get}
 use Rattle.tn_net.specs.declared.networks.Far.{Far}
-use Rattle.tn_net.specs.declared.networks.Far.TheVariants.{Nothing, Host, Link}
+use Rattle.tn_net.specs.declared.networks.Far.TheVariants.{Nothing, Link}
 use Rattle.tn_net.specs.Networks.{NetworkState, IsEnd, IsPairing, far_at}
 use Rattle.tn_network.specs.declared.hosts.TheConstants.{KEPT_LIMIT}
 use Rattle.tn_network.specs.Boards.{BoardState}
