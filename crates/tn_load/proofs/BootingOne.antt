@@ -11,7 +11,8 @@ use Rattle.tn_stream.proofs.SingleTrees.{single-branch, single-whole}
 use Rattle.tn_load.specs.Boots.{Boots, alone_node, LoadingOne}
 use Rattle.tn_load.proofs.Booting.{boots}
 
-single-tree : (network : NetworkState) → IsPairing network → length network.sizes ≡ 1 → IsLoadTree network (alone_node network.root_link ∷ [])
+single-tree : (network : NetworkState) → IsPairing network → length network.sizes ≡ 1
+    → IsLoadTree network (alone_node network.root_link ∷ [])
 single-tree network pairing one =
     record {
       paths = [] ∷ [];

@@ -1,5 +1,6 @@
 -- Boots: a stream loads a network, whatever the memories held and in whatever order the steps come.
-use Rattle.std.specs.Prelude.{◌≡◌, ◌↔◌, ◌⊎◌, ℕ, ◌-◌, ◌<◌, ◌≤◌, true, false, List, [], ◌∷◌, ◌++◌, map, length, All, None, slice_index, slice_index_or}
+use Rattle.std.specs.Prelude.{◌≡◌, ◌↔◌, ◌⊎◌, ℕ, ◌-◌, ◌<◌, ◌≤◌, true, false, List, [], ◌∷◌, ◌++◌, map, length, All, None, slice_index}
+use Rattle.std.specs.Prelude.{slice_index_or}
 use Rattle.tn_word.specs.Words.{most_neg, load_base}
 use Rattle.tn_net.specs.Networks.{NetworkState, IsPairing}
 use Rattle.tn_net.specs.Trees.{LoadNode, IsLoadTree}
@@ -122,4 +123,5 @@ alone_node k = record { processor = 0; parent = None; parent_link = 0; boot_link
 abbrev pub LoadingOne : Type 0
 LoadingOne =
     (network : NetworkState) (image : ImageBytes) → IsPairing network → length network.sizes ≡ 1 → AreFor network (image ∷ [])
-    → Boots network (image ∷ []) (stream (one_processor network.root_link image)) (load_steps (image ∷ []) (alone_node network.root_link ∷ []))
+    → Boots network (image ∷ []) (stream (one_processor network.root_link image))
+        (load_steps (image ∷ []) (alone_node network.root_link ∷ []))
