@@ -1,8 +1,6 @@
 -- What a node allows that allows one kind of act only.
 use Rattle.std.proofs.Common.{◌≡◌, ◌≢◌, ℕ, ◌==◌, ◌<◌, Bool, true, false, List, Option, Some, None, refl, sym, ◌∙◌, arith}
-use Rattle.std.specs.Prelude.{◌&&◌, is_some, not, nat_lt, if◌then◌else◌, slice_index_or}
-use Rattle.std.specs.Int.{w32, to_le_bytes}
-use Rattle.std.specs.Result.{result_unwrap_or}
+use Rattle.std.specs.Prelude.{◌&&◌, is_some, not}
 use Rattle.std.proofs.lemmas.Bool.Decides.{nat_tests}
 use Rattle.tn_mem.specs.Spaces.{Access}
 use Rattle.tn_node.specs.declared.engines.Engine.{Engine}
@@ -10,7 +8,7 @@ use Rattle.tn_node.specs.declared.modes.Stage.{Stage}
 use Rattle.tn_node.specs.declared.modes.Stage.TheVariants.{Reset, Poking, Peeking, Replying, Booting, Refused, Over}
 use Rattle.tn_node.specs.Engines.{engine_of}
 use Rattle.tn_node.specs.Nodes.{NodeState, is_over}
-use Rattle.tn_node.specs.Links.{wants, is_reply, offers, output_byte, reply_byte, is_sent, awaits}
+use Rattle.tn_node.specs.Links.{wants, offers, output_byte, is_sent, awaits}
 use Rattle.tn_load.specs.Inner.NodeActs.{is_closed, all_shut, alone_at, only_at, only_steps, only_takes, only_takes_at, only_sends}
 use Rattle.tn_load.proofs.Leading.{each_link}
 
@@ -73,14 +71,16 @@ only engines k h =
     let c = both _ _ b.1 in
     each_link (λ l. is_some (engine_of engines l) ≡ (l == k)) (alone k 0 _ a.0) (alone k 1 _ b.0) (alone k 2 _ c.0) (alone k 3 _ c.1)
 
--- a node that only takes on its boot link runs nothing, offers nothing and waits for no acknowledge; and wants bytes of its boot link alone, but in reset
+-- a node that only takes on its boot link runs nothing, offers nothing and waits for no acknowledge; and
+-- wants bytes of its boot link alone, but in reset
 pub record IsTaker {M : Type 0} (access : Access M) (k : ℕ) (n : NodeState M) (l : ℕ) : Type 0 where
   pub wants_own : l ≡ k → wants l n ≡ true
   pub wants_other : n.stage ≢ Reset → l ≢ k → wants l n ≡ false
   pub offers_none : offers access l n ≡ None
   pub awaits_none : awaits l n ≡ false
 
-pub takes-taker : {M : Type 0} (access : Access M) (k : ℕ) (n : NodeState M) → only_takes k n ≡ true → (l : ℕ) → l < 4 → IsTaker access k n l
+pub takes-taker : {M : Type 0} (access : Access M) (k : ℕ) (n : NodeState M) → only_takes k n ≡ true → (l : ℕ) → l < 4
+    → IsTaker access k n l
 unfolding offers
 takes-taker access k n h l link = go n.stage refl h
   where
@@ -93,22 +93,42 @@ takes-taker access k n h l link = go n.stage refl h
     go : (s : Stage) → n.stage ≡ s → only_takes_at s k n ≡ true → IsTaker access k n l
     go Reset e t =
         let outs = shut n.outputs (both _ _ t).1 l link in
-        record { wants_own = λ q. rw e refl; wants_other = λ q r. absurd (q e); offers_none = rw (e, outs) refl; awaits_none = rw (e, outs) refl }
+        record {
+          wants_own = λ q. rw e refl;
+          wants_other = λ q r. absurd (q e);
+          offers_none = rw (e, outs) refl;
+          awaits_none = rw (e, outs) refl;
+        }
     go Poking e t =
         let a = both _ _ t in
         let outs = shut n.outputs (both _ _ a.1).1 l link in
         let at : k ≡ n.expects.link = grind (arith, nat_tests) in
-        record { wants_own = λ q. rw (e, ← at) (same q); wants_other = λ q r. rw (e, ← at) (other r); offers_none = rw (e, outs) refl; awaits_none = rw (e, outs) refl }
+        record {
+          wants_own = λ q. rw (e, ← at) (same q);
+          wants_other = λ q r. rw (e, ← at) (other r);
+          offers_none = rw (e, outs) refl;
+          awaits_none = rw (e, outs) refl;
+        }
     go Peeking e t =
         let a = both _ _ t in
         let outs = shut n.outputs (both _ _ a.1).1 l link in
         let at : k ≡ n.expects.link = grind (arith, nat_tests) in
-        record { wants_own = λ q. rw (e, ← at) (same q); wants_other = λ q r. rw (e, ← at) (other r); offers_none = rw (e, outs) refl; awaits_none = rw (e, outs) refl }
+        record {
+          wants_own = λ q. rw (e, ← at) (same q);
+          wants_other = λ q r. rw (e, ← at) (other r);
+          offers_none = rw (e, outs) refl;
+          awaits_none = rw (e, outs) refl;
+        }
     go Booting e t =
         let a = both _ _ t in
         let outs = shut n.outputs (both _ _ a.1).1 l link in
         let at : k ≡ n.expects.link = grind (arith, nat_tests) in
-        record { wants_own = λ q. rw (e, ← at) (same q); wants_other = λ q r. rw (e, ← at) (other r); offers_none = rw (e, outs) refl; awaits_none = rw (e, outs) refl }
+        record {
+          wants_own = λ q. rw (e, ← at) (same q);
+          wants_other = λ q r. rw (e, ← at) (other r);
+          offers_none = rw (e, outs) refl;
+          awaits_none = rw (e, outs) refl;
+        }
     go Replying e t = cc
     go (Refused why) e t = cc
     go Over e t =
@@ -116,7 +136,12 @@ takes-taker access k n h l link = go n.stage refl h
         let b = both _ _ a.1 in
         let outs = shut n.outputs b.0 l link in
         let ins = only n.inputs k b.1 l link in
-        record { wants_own = λ q. rw e (ins ∙ same q); wants_other = λ q r. rw e (ins ∙ other r); offers_none = rw (e, outs) refl; awaits_none = rw (e, outs) refl }
+        record {
+          wants_own = λ q. rw e (ins ∙ same q);
+          wants_other = λ q r. rw e (ins ∙ other r);
+          offers_none = rw (e, outs) refl;
+          awaits_none = rw (e, outs) refl;
+        }
 
 -- a node that only sends by a link takes nothing, and is silent on all other links
 pub record IsSender {M : Type 0} (access : Access M) (link : ℕ) (n : NodeState M) (l : ℕ) : Type 0 where
@@ -124,7 +149,8 @@ pub record IsSender {M : Type 0} (access : Access M) (link : ℕ) (n : NodeState
   pub offers_none : l ≢ link → offers access l n ≡ None
   pub awaits_none : l ≢ link → awaits l n ≡ false
 
-pub sends-sender : {M : Type 0} (access : Access M) (m : ℕ) (n : NodeState M) → only_sends m n ≡ true → (l : ℕ) → l < 4 → IsSender access m n l
+pub sends-sender : {M : Type 0} (access : Access M) (m : ℕ) (n : NodeState M) → only_sends m n ≡ true → (l : ℕ) → l < 4
+    → IsSender access m n l
 unfolding offers
 sends-sender access m n h l link =
     let a = both _ _ h in

@@ -1,17 +1,19 @@
 -- What is left of the bytes of a processor's children, while it takes its part of the last wave and before.
-use Rattle.std.proofs.Common.{◌≡◌, ℕ, zero, suc, ◌+◌, ◌==◌, ◌<◌, ◌≤◌, Bool, true, false, List, [], ◌∷◌, ◌++◌, length, refl, sym, ap, ◌∙◌, subst, append_assoc, append-nil, arith}
+use Rattle.std.proofs.Common.{◌≡◌, ℕ, zero, suc, ◌+◌, ◌==◌, ◌<◌, ◌≤◌, Bool, true, false, List, [], ◌∷◌, ◌++◌, length, refl, sym, ap, ◌∙◌}
+use Rattle.std.proofs.Common.{subst, append_assoc, append-nil, arith}
 use Rattle.std.specs.Prelude.{if◌then◌else◌, ◌-◌, ◌/◌}
 use Rattle.tn_word.specs.Channels.{out_channel_of}
 use Rattle.tn_loader.specs.Commands.{command_bytes, forward_command, run_command, nop_command}
 use Rattle.tn_stream.specs.Branches.{Children}
 use Rattle.tn_stream.specs.Branches.Children.{none, child}
-use Rattle.tn_stream.specs.Streams.{Site, own_load, nothing, nop_of, run_of, wave, wave_below, start_part}
+use Rattle.tn_stream.specs.Streams.{Site, own_load, nothing, nop_of, run_of, wave, start_part}
 use Rattle.tn_load.specs.Acts.{Act}
 use Rattle.tn_load.specs.Acts.Act.{Step, Takes, Sends, Acks}
 use Rattle.tn_load.specs.LoneRuns.{takes_of, sends_of, is_waiting, Lone}
-use Rattle.tn_load.specs.Inner.Lives.{takes, steps, loader_acts, loads_acts, part, part_at, forwards_acts, forward_loop, nop_acts, run_acts, life}
-use Rattle.tn_load.proofs.LoaderActs.{takes_of-append, takes_of-takes, takes_of-steps, takes_of-forwards, takes_of-run}
-use Rattle.tn_load.proofs.LoaderActs.{sends_of-append, sends_of-takes, sends_of-steps, sends_of-forwards, sends_of-run}
+use Rattle.tn_load.specs.Inner.Lives.{takes, steps, loader_acts, loads_acts, part, part_at, forwards_acts, forward_loop, nop_acts}
+use Rattle.tn_load.specs.Inner.Lives.{run_acts, life}
+use Rattle.tn_load.proofs.LoaderActs.{takes_of-append, takes_of-forwards, takes_of-run}
+use Rattle.tn_load.proofs.LoaderActs.{sends_of-append, sends_of-forwards, sends_of-run}
 use Rattle.tn_load.proofs.Answered.{Settled, settled-waits, settled-append, settled-forwards, settled-run}
 use Rattle.tn_load.proofs.Answered.Settled.{settled, stepped, took, sent_off}
 
@@ -103,7 +105,8 @@ module _ (most : ℕ) (parts : ℕ → ℕ) where
       record { more = let count = a.count in omega (arith, count); all = λ l. let all = a.all l in omega (arith, all) }
   before-takes byte (next ∷ bytes) left a = before-more (Takes byte) (takes (next ∷ bytes) ++ left) (before-takes next bytes left a)
 
-  later-takes : (bytes : List ℕ) (left : List Act) → IsAt left → AllLater (IsAlong most parts) left → AllLater (IsAlong most parts) (takes bytes ++ left)
+  later-takes : (bytes : List ℕ) (left : List Act) → IsAt left → AllLater (IsAlong most parts) left
+      → AllLater (IsAlong most parts) (takes bytes ++ left)
   later-takes [] left a all = all
   later-takes (byte ∷ bytes) left a all =
       (before-along (takes (byte ∷ bytes) ++ left) (before-takes byte bytes left a), later-takes bytes left a all)
@@ -160,7 +163,8 @@ settled-last : (site : Site) (below : Children Site) → Settled (last_acts site
 settled-last site below = settled-append (settled-forwards nothing run_of below) (settled-run site.image)
 
 -- it begins with a byte to take
-first-taken : (bytes : List ℕ) (rest : List Act) → 0 < length bytes → (x : ℕ) × ((others : List Act) × (takes bytes ++ rest ≡ Takes x ∷ others))
+first-taken : (bytes : List ℕ) (rest : List Act) → 0 < length bytes
+    → (x : ℕ) × ((others : List Act) × (takes bytes ++ rest ≡ Takes x ∷ others))
 first-taken [] rest some = absurd (omega (arith, some))
 first-taken (byte ∷ bytes) rest some = (byte, (takes bytes ++ rest, refl))
 
@@ -187,7 +191,8 @@ last-later site below =
     let start = last-begins site below in
     go start.0 start.1.0 start.1.1 (settled-last site below) (λ l. ap length (sends-last site below l)) (ap length (takes-last site below))
   where
-    from : (x : ℕ) (others : List Act) → Settled (Takes x ∷ others) → ((l : ℕ) → length (sends_of l (Takes x ∷ others)) ≡ last_parts below l)
+    from : (x : ℕ) (others : List Act) → Settled (Takes x ∷ others)
+        → ((l : ℕ) → length (sends_of l (Takes x ∷ others)) ≡ last_parts below l)
         → length (takes_of (Takes x ∷ others)) ≡ last_count site below
         → AllLater (IsAlong (last_count site below) (last_parts below)) (Takes x ∷ others)
     from x others (took s) sends count = (
@@ -199,7 +204,8 @@ last-later site below =
         → ((l : ℕ) → length (sends_of l (last_acts site below)) ≡ last_parts below l)
         → length (takes_of (last_acts site below)) ≡ last_count site below
         → AllLater (IsAlong (last_count site below) (last_parts below)) (last_acts site below)
-    go x others is s sends count = subst (AllLater (IsAlong (last_count site below) (last_parts below))) (sym is) (from x others (subst Settled is s)
+    go x others is s sends count = subst (AllLater (IsAlong (last_count site below) (last_parts below))) (sym is)
+        (from x others (subst Settled is s)
         (λ l. ap (λ acts. length (sends_of l acts)) (sym is) ∙ sends l) (ap (λ acts. length (takes_of acts)) (sym is) ∙ count))
 
 at-last : (site : Site) (below : Children Site) → IsAt (last_count site below) (last_parts below) (last_acts site below)
@@ -218,8 +224,10 @@ life-along site below =
     let last : List Act = last_acts site below in
     let stepped_in = later-steps most parts 15 last (at-last site below) (last-later site below) in
     let taken_in = later-takes most parts nop_command (steps 15 ++ last) (at-steps most parts 15 last (at-last site below)) stepped_in in
-    let before = before-takes most parts 3 (0 ∷ 0 ∷ 0 ∷ 0 ∷ 0 ∷ 0 ∷ 0 ∷ 0 ∷ 0 ∷ 0 ∷ 0 ∷ []) (steps 15 ++ last) (at-steps most parts 15 last (at-last site below)) in
-    let front : List Act = loader_acts site.boot ++ (loads_acts site.image.segments ++ (forwards_acts own_load nothing below ++ forwards_acts nothing nop_of below)) in
+    let before = before-takes most parts 3 (0 ∷ 0 ∷ 0 ∷ 0 ∷ 0 ∷ 0 ∷ 0 ∷ 0 ∷ 0 ∷ 0 ∷ 0 ∷ []) (steps 15 ++ last)
+    (at-steps most parts 15 last (at-last site below)) in
+    let front : List Act = loader_acts site.boot ++
+    (loads_acts site.image.segments ++ (forwards_acts own_load nothing below ++ forwards_acts nothing nop_of below)) in
     let all = later-before most parts front (nop_acts ++ last) before taken_in in
     subst (AllLater (IsAlong most parts))
     (append_assoc (loader_acts site.boot) _ (nop_acts ++ last) ∙ ap (λ rest. loader_acts site.boot ++ rest)

@@ -1,5 +1,5 @@
 -- Behind each byte that a processor of a load tree sends comes its acknowledge, and nowhere else one.
-use Rattle.std.proofs.Common.{◌≡◌, ℕ, zero, suc, ◌-◌, ◌==◌, Bool, true, false, List, [], ◌∷◌, ◌++◌, length, take, drop, refl}
+use Rattle.std.proofs.Common.{◌≡◌, ℕ, zero, suc, ◌-◌, false, List, [], ◌∷◌, ◌++◌, length, take, drop, refl}
 use Rattle.std.specs.Prelude.{◌/◌}
 use Rattle.tn_word.specs.Words.{bytes_of_word}
 use Rattle.tn_word.specs.Channels.{out_channel_of}
@@ -12,8 +12,9 @@ use Rattle.tn_stream.specs.Branches.Children.{none, child}
 use Rattle.tn_stream.specs.Streams.{Site, own_load, nothing, nop_of, run_of}
 use Rattle.tn_load.specs.Acts.{Act}
 use Rattle.tn_load.specs.Acts.Act.{Step, Takes, Sends, Acks}
-use Rattle.tn_load.specs.LoneRuns.{AreAnswered, is_sending, is_waiting}
-use Rattle.tn_load.specs.Inner.Lives.{takes, sends, steps, forward_loop, loader_acts, load_acts, loads_acts, forward_acts, nop_acts, run_acts, part, forwards_acts, life}
+use Rattle.tn_load.specs.LoneRuns.{AreAnswered, is_waiting}
+use Rattle.tn_load.specs.Inner.Lives.{takes, sends, steps, forward_loop, loader_acts, loads_acts}
+use Rattle.tn_load.specs.Inner.Lives.{run_acts, part, forwards_acts, life}
 
 -- each act that sends comes with its acknowledge
 pub data Settled : List Act → Type 0 where
@@ -78,7 +79,8 @@ settled-loads (s ∷ rest) =
 
 settled-loader : (k : ℕ) → Settled (loader_acts k)
 settled-loader k =
-    took (settled-append (settled-takes (primary_bytes k)) (settled-append (settled-steps 33) (settled-append (settled-takes (bytes_of_word 55))
+    took (settled-append (settled-takes (primary_bytes k))
+    (settled-append (settled-steps 33) (settled-append (settled-takes (bytes_of_word 55))
     (settled-append (settled-steps 9) (settled-append (settled-takes secondary_bytes) (settled-steps 19))))))
 
 pub settled-run : (image : ImageBytes) → Settled (run_acts image)

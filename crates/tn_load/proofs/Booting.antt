@@ -1,7 +1,8 @@
 -- The loading theorem, put together.
-use Rattle.std.proofs.Common.{◌≡◌, ◌⊎◌, inl, inr, ℕ, zero, suc, ◌+◌, ◌-◌, ◌*◌, ◌<◌, ◌≤◌, Bool, true, false, List, [], ◌∷◌, length, map, All, get_or, replicate}
+use Rattle.std.proofs.Common.{◌≡◌, ◌⊎◌, ℕ, zero, suc, ◌+◌, ◌-◌, ◌*◌, ◌<◌, ◌≤◌, true, false, List, [], ◌∷◌, length}
+use Rattle.std.proofs.Common.{All, replicate}
 use Rattle.std.proofs.Common.{Option, Some, None, refl, sym, ap, ◌∙◌, subst, arith, append-nil, ◌++◌}
-use Rattle.std.specs.Prelude.{slice_get, slice_index, slice_index_or, option_map, ◌↔◌}
+use Rattle.std.specs.Prelude.{slice_get, slice_index, option_map, ◌↔◌}
 use Rattle.std.specs.List.{AllByRecursion}
 use Rattle.std.proofs.lemmas.List.{length-map, get_or-map}
 use Rattle.std.proofs.lemmas.List.Elements.{All-from_recursion, recursion_from_All}
@@ -13,36 +14,34 @@ use Rattle.tn_net.specs.declared.networks.Far.TheVariants.{Nothing, Host, Link}
 use Rattle.tn_net.specs.Trees.{LoadNode, IsLoadTree}
 use Rattle.tn_net.specs.WholeTrees.{IsWholeTree}
 use Rattle.tn_stream.specs.Images.{SegmentBytes, ImageBytes}
-use Rattle.tn_stream.specs.PlainImages.{end, IsPlain}
+use Rattle.tn_stream.specs.PlainImages.{end}
 use Rattle.tn_stream.specs.Lengths.{load_steps}
 use Rattle.tn_stream.specs.Streams.{stream}
 use Rattle.tn_stream.specs.LoadBranches.{no_image, whole_branch}
 use Rattle.tn_node.specs.Nodes.{NodeState}
 use Rattle.tn_network.specs.declared.picks.Pick.{Pick}
 use Rattle.tn_network.specs.Boards.{BoardState, at_node, given}
-use Rattle.tn_network.specs.Holds.{HoldState, entry_of}
+use Rattle.tn_network.specs.Holds.{entry_of}
 use Rattle.tn_network.specs.NodeOps.{stands_at}
-use Rattle.tn_network.specs.Loads.{Target, StandsIn, IsLoadedNode, AreLoadedNodes, IsLoaded}
+use Rattle.tn_network.specs.Loads.{Target, StandsIn, IsLoadedNode, IsLoaded}
 use Rattle.tn_network.specs.Nets.{memory_ops}
-use Rattle.tn_network.specs.PickLists.{AreEnabled, after, AtRest}
 use Rattle.tn_network.specs.Resets.{PowerState, AreSized, reset_board}
 use Rattle.tn_load.specs.Plans.{Course, Plan, now, picks_left, plan_behind}
 use Rattle.tn_load.specs.Keep.{Anything, UnderWay, IsRooted, IsWhole, ends_from, ended_board}
 use Rattle.tn_load.specs.Targets.{placed_all, target_of, targets_of}
-use Rattle.tn_load.specs.Boots.{image_at, no_power, power_at, AreFor, held_at, begun, Runs, Rests, state_behind, IsLive, IsOutside, memory_at, IsTidy, IsSafe}
-use Rattle.tn_load.specs.Boots.{Loads, Boots, Loading}
-use Rattle.tn_load.specs.Inner.NodeActs.{Holds}
+use Rattle.tn_load.specs.Boots.{image_at, power_at, AreFor, held_at, begun, Runs, Rests, state_behind, IsOutside}
+use Rattle.tn_load.specs.Boots.{memory_at, IsSafe}
+use Rattle.tn_load.specs.Boots.{Loads, Loading}
 use Rattle.tn_load.specs.Inner.Lives.{LieIn}
 use Rattle.tn_load.specs.Inner.Loadings.{from_host, unsent, IsLoading}
 use Rattle.tn_load.proofs.Keeping.{along}
 use Rattle.tn_load.proofs.Ending as ending
-use Rattle.tn_load.proofs.Lives.{Whole, at_entry, length-with_segments}
 use Rattle.tn_load.proofs.Segments.{whole-rest}
 use Rattle.tn_load.proofs.Segments as segments
 use Rattle.tn_load.proofs.PlainFits.{plain-fits, plain-apart}
 use Rattle.tn_load.proofs.EndsLoaded.{whole-pieces, loaded-node, loaded-each}
 use Rattle.tn_load.proofs.TreeRuns.{size-is}
-use Rattle.tn_load.proofs.TreePlans.{IsAtEntry, IsPlanned, tree_plan, planned}
+use Rattle.tn_load.proofs.TreePlans.{IsAtEntry, tree_plan, planned}
 use Rattle.tn_load.proofs.FitTogether.{goes-under, rooted, picks-first}
 use Rattle.tn_load.proofs.WholeBefore.{whole-all}
 
@@ -53,7 +52,8 @@ unfolding ends_from
 ends-length p zero courses = refl
 ends-length p (suc count) courses = ap suc (ends-length (p + 1) count courses)
 
-ends-at : {N : Type 0} (p count k : ℕ) (courses : ℕ → Course N) → k < count → slice_get (ends_from p count courses) k ≡ Some (courses (p + k)).end
+ends-at : {N : Type 0} (p count k : ℕ) (courses : ℕ → Course N) → k < count
+    → slice_get (ends_from p count courses) k ≡ Some (courses (p + k)).end
 unfolding ends_from
 ends-at p zero k courses inside = absurd (omega arith)
 ends-at p (suc count) zero courses inside = let same : p ≡ p + 0 = omega arith in ap (λ q. Some (courses q).end) same
@@ -73,7 +73,8 @@ outside-all : (a : ℕ) (ss : List SegmentBytes) → AllByRecursion (λ s. (a < 
 outside-all a [] all = tt
 outside-all a (s ∷ ss) all = (all.0, outside-all a ss all.1)
 
-module _ (network : NetworkState) (nodes : List LoadNode) (images : List ImageBytes) (powers : List PowerState) (pairing : IsPairing network)
+module _ (network : NetworkState) (nodes : List LoadNode) (images : List ImageBytes) (powers : List PowerState)
+    (pairing : IsPairing network)
     (tree : IsLoadTree network nodes) (whole : IsWholeTree nodes (length network.sizes)) (are : AreFor network images)
     (sized : AreSized powers network) where
   entry-at : (p : ℕ) → p < length network.sizes → entry_of (held_at images) p ≡ (image_at images p).entry
@@ -121,13 +122,17 @@ module _ (network : NetworkState) (nodes : List LoadNode) (images : List ImageBy
   node-is p n is =
       let within = slice_get_within loaded.nodes p n is in
       let inside : p < count = omega (arith, within, ends-length 0 count plan.courses) in
-      let zero_p : 0 + p ≡ p = omega arith in
-      (inside, some_same n (plan.courses p).end (sym is ∙ (ends-at 0 count p plan.courses inside ∙ ap (λ q. Some (plan.courses q).end) zero_p)))
+      let zero_p : 0 + p ≡ p = omega arith in (
+        inside,
+        some_same n (plan.courses p).end
+            (sym is ∙ (ends-at 0 count p plan.courses inside ∙ ap (λ q. Some (plan.courses q).end) zero_p)),
+      )
 
   target-is : (p : ℕ) (t : Target) → p < count → slice_get (targets_of images) p ≡ Some t → target_of (image_at images p) ≡ t
   target-is p t inside is =
       some_same (target_of (image_at images p)) t
-      (sym (slice_get-map target_of images p ∙ ap (option_map target_of) (slice_get-get_or images p no_image (omega (arith, are.count, inside)))) ∙ is)
+      (sym (slice_get-map target_of images p ∙ ap (option_map target_of)
+      (slice_get-get_or images p no_image (omega (arith, are.count, inside)))) ∙ is)
 
   each-loaded : (p : ℕ) (n : NodeState (List ℕ)) (t : Target) → slice_get loaded.nodes p ≡ Some n → slice_get (targets_of images) p ≡ Some t
       → IsLoadedNode (λ m. m) n t
@@ -144,9 +149,9 @@ module _ (network : NetworkState) (nodes : List LoadNode) (images : List ImageBy
       let e = at-entry p inside in
       let zero_p : 0 + p ≡ p = omega arith in
       let node : slice_get loaded.nodes p ≡ Some (plan.courses p).end =
-          ends-at 0 count p plan.courses inside ∙ ap (λ q. Some (plan.courses q).end) zero_p in
+      ends-at 0 count p plan.courses inside ∙ ap (λ q. Some (plan.courses q).end) zero_p in
       let memory : memory_at loaded p ≡ e.memory =
-          ap (given [] (λ (n : NodeState (List ℕ)). n.cpu.memory)) node ∙ ap (λ x. x.cpu.memory) e.is in
+      ap (given [] (λ (n : NodeState (List ℕ)). n.cpu.memory)) node ∙ ap (λ x. x.cpu.memory) e.is in
       ap (λ m. slice_index m (a - most_neg)) memory
       ∙ whole-rest (image_at images p) (power_at powers p).bytes e.memory a (lies p inside) e.whole low
       (outside-all a (image_at images p).segments (recursion_from_All (λ s. (a < s.base) ⊎ (end s ≤ a)) (image_at images p).segments out))
@@ -199,11 +204,11 @@ module _ (network : NetworkState) (nodes : List LoadNode) (images : List ImageBy
           let p_inside : p < count = omega (arith, p_image, are.count) in
           let q_inside : q < count = omega (arith, q_image, are.count) in
           let p_now : one.0 ≡ now ((plan_behind network picks first_plan).courses p) =
-              some_same one.0 (now ((plan_behind network picks first_plan).courses p)) (sym one.1.0 ∙ u.nodes p p_inside) in
+          some_same one.0 (now ((plan_behind network picks first_plan).courses p)) (sym one.1.0 ∙ u.nodes p p_inside) in
           let held_fact = whole-all network nodes images powers (held_at images) loading held rest picks board u p p_inside
-              (ap (memory_ops.stands (entry_of (held_at images) p)) (sym p_now) ∙ one.1.1) q q_inside in
+          (ap (memory_ops.stands (entry_of (held_at images) p)) (sym p_now) ∙ one.1.1) q q_inside in
           let memory : memory_at board q ≡ held_fact.memory =
-              ap (given [] (λ (n : NodeState (List ℕ)). n.cpu.memory)) (u.nodes q q_inside) ∙ held_fact.is in
+          ap (given [] (λ (n : NodeState (List ℕ)). n.cpu.memory)) (u.nodes q q_inside) ∙ held_fact.is in
           subst (λ m. All (StandsIn m) (placed_all (image_at images q).segments)) (sym memory)
           (whole-pieces (image_at images q) (power_at powers q).bytes held_fact.memory (lies q q_inside) (apart q q_inside) held_fact.fact)
 
@@ -240,7 +245,8 @@ module _ (network : NetworkState) (nodes : List LoadNode) (images : List ImageBy
   ends-loaded : (picks : List Pick) → Runs (begun network images powers bytes) picks → length picks ≡ load_steps images nodes
       → state_behind (begun network images powers bytes) picks ≡ loaded
   ends-loaded picks on full =
-      ending.one_end memory_ops network (held_at images) Anything (unsent network []) [] (record plan { sends = bytes }) (reset_board powers bytes)
+      ending.one_end memory_ops network (held_at images) Anything (unsent network []) [] (record plan { sends = bytes })
+      (reset_board powers bytes)
       picks begins root all-come on (full ∙ sym all)
 
   loads : Loads network images powers bytes (load_steps images nodes)

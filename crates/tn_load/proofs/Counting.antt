@@ -1,5 +1,6 @@
 -- Each place of a load tree but the first is a child of one other.
-use Rattle.std.proofs.Common.{◌≡◌, ◌≢◌, ℕ, zero, suc, ◌+◌, ◌<◌, ◌≤◌, Bool, true, false, Option, Some, None, List, [], ◌∷◌, ◌++◌, refl, ap, ◌∙◌, arith}
+use Rattle.std.proofs.Common.{◌≡◌, ◌≢◌, ℕ, zero, suc, ◌+◌, ◌<◌, ◌≤◌, Bool, true, false, Option, Some, None, [], ◌∷◌, ◌++◌, refl, ap}
+use Rattle.std.proofs.Common.{◌∙◌, arith}
 use Rattle.std.specs.Prelude.{if◌then◌else◌, nat_eq, nat_lt, ◌||◌}
 use Rattle.std.proofs.lemmas.Bool.Decides.{nat_tests}
 use Rattle.std.specs.Prelude.{sum_by}
@@ -33,11 +34,13 @@ module _ (g : ℕ → ℕ) (parent_at : ℕ → Option ℕ) where
   unfolding hit
   child-more c k = go (is_parent (parent_at c) k)
     where
-      go : (test : Bool) → sum_by g (if test then children_below parent_at k c ++ c ∷ [] else children_below parent_at k c) ≡ sum_by g (children_below parent_at k c) + (if test then g c else 0)
+      go : (test : Bool) → sum_by g (if test then children_below parent_at k c ++ c ∷ [] else children_below parent_at k c) ≡ sum_by g
+          (children_below parent_at k c) + (if test then g c else 0)
       go true = sum_by_push g (children_below parent_at k c) c
       go false = omega arith
 
-  children-more : (c n : ℕ) → total (λ k. sum_by g (children_below parent_at k (suc c))) n ≡ total (λ k. sum_by g (children_below parent_at k c)) n + total (hit c) n
+  children-more : (c n : ℕ) → total (λ k. sum_by g (children_below parent_at k (suc c))) n ≡ total
+      (λ k. sum_by g (children_below parent_at k c)) n + total (hit c) n
   unfolding sum_below
   children-more c zero = refl
   children-more c (suc n) =
@@ -66,7 +69,8 @@ module _ (g : ℕ → ℕ) (parent_at : ℕ → Option ℕ) where
       at : (test : Bool) → nat_eq p n ≡ test → (if is_parent (parent_at c) n then g c else 0) ≡ (if test then g c else 0)
       at test t = rw (e, t) refl
 
-      go : (p < n → total (hit c) n ≡ g c) → (test : Bool) → nat_eq p n ≡ test → total (hit c) n + (if is_parent (parent_at c) n then g c else 0) ≡ g c
+      go : (p < n → total (hit c) n ≡ g c) → (test : Bool) → nat_eq p n ≡ test
+          → total (hit c) n + (if is_parent (parent_at c) n then g c else 0) ≡ g c
       go earlier true t =
           let last = at true t in
           let before = missed c p n e (grind (arith, nat_tests)) in
@@ -79,14 +83,16 @@ module _ (g : ℕ → ℕ) (parent_at : ℕ → Option ℕ) where
   none-hit : (c n : ℕ) → parent_at c ≡ None → total (hit c) n ≡ 0
   unfolding sum_below hit
   none-hit c zero e = refl
-  none-hit c (suc n) e = let rest = none-hit c n e in let last : (if is_parent (parent_at c) n then g c else 0) ≡ 0 = rw e refl in omega arith
+  none-hit c (suc n) e = let rest = none-hit c n e in let last : (if is_parent (parent_at c) n then g c else 0) ≡ 0 =
+      rw e refl in omega arith
 
   nothing : (n : ℕ) → total (λ k. sum_by g (children_below parent_at k zero)) n ≡ 0
   unfolding sum_below
   nothing zero = refl
   nothing (suc n) = let rest = nothing n in omega arith
 
-  counted : (n m : ℕ) → parent_at 0 ≡ None → ((c : ℕ) → 0 < c → c < n → (p : ℕ) × (parent_at c ≡ Some p) × (p < n)) → suc m ≤ n → total (λ k. sum_by g (children_below parent_at k (suc m))) n + g 0 ≡ total g (suc m)
+  counted : (n m : ℕ) → parent_at 0 ≡ None → ((c : ℕ) → 0 < c → c < n → (p : ℕ) × (parent_at c ≡ Some p) × (p < n)) → suc m ≤ n
+      → total (λ k. sum_by g (children_below parent_at k (suc m))) n + g 0 ≡ total g (suc m)
   unfolding sum_below
   counted n zero top parents within =
       let more = children-more 0 n in
@@ -101,7 +107,8 @@ module _ (g : ℕ → ℕ) (parent_at : ℕ → Option ℕ) where
       omega arith
 
   -- a sum over all places is one over all children of all places, and the first
-  pub counts-once : (n : ℕ) → parent_at 0 ≡ None → ((c : ℕ) → 0 < c → c < suc n → (p : ℕ) × (parent_at c ≡ Some p) × (p < suc n)) → total (λ k. sum_by g (children_below parent_at k (suc n))) (suc n) + g 0 ≡ total g (suc n)
+  pub counts-once : (n : ℕ) → parent_at 0 ≡ None → ((c : ℕ) → 0 < c → c < suc n → (p : ℕ) × (parent_at c ≡ Some p) × (p < suc n))
+      → total (λ k. sum_by g (children_below parent_at k (suc n))) (suc n) + g 0 ≡ total g (suc n)
   counts-once n top parents = counted (suc n) n top parents (omega arith)
 
 -- ---- a sum over the values of a function that takes each once
@@ -170,7 +177,8 @@ module _ (h value : ℕ → ℕ) where
   unfolding part seen
   part-here n fresh = let here : nat_eq (value n) (value n) ≡ true = grind (arith, nat_tests) in rw (here, fresh) (omega arith)
 
-  parts : (n m : ℕ) → ((k : ℕ) → k < n → value k < m) → ((j k : ℕ) → j < k → k < n → value j ≢ value k) → total (part n) m ≡ total (λ k. h (value k)) n
+  parts : (n m : ℕ) → ((k : ℕ) → k < n → value k < m) → ((j k : ℕ) → j < k → k < n → value j ≢ value k)
+      → total (part n) m ≡ total (λ k. h (value k)) n
   unfolding sum_below part seen
   parts zero m inside apart = none m
     where
@@ -180,7 +188,8 @@ module _ (h value : ℕ → ℕ) where
   parts (suc n) m inside apart =
       let before = parts n m (λ k less. inside k (omega arith)) (λ j k less within. apart j k less (omega arith)) in
       let fresh = unseen n (value n) (λ k less. apart k n less (omega arith)) in
-      let more = differs-once (part n) (part (suc n)) (value n) (h (value n)) m (part-more n) (part-here n fresh) (inside n (omega arith)) in
+      let more = differs-once (part n) (part (suc n)) (value n) (h (value n)) m (part-more n) (part-here n fresh)
+      (inside n (omega arith)) in
       omega arith
 
   -- where each number below m is the value of one below n, and of one alone

@@ -1,9 +1,9 @@
 -- The course that a lone run is.
-use Rattle.std.proofs.Common.{◌≡◌, ℕ, ◌<◌, List, [], ◌∷◌, refl, sym, ap, ◌∙◌, subst}
+use Rattle.std.proofs.Common.{◌≡◌, List, [], ◌∷◌, refl, sym, ap, subst}
 use Rattle.tn_network.specs.NodeOps.{NodeOps}
 use Rattle.tn_load.specs.Acts.{Act, Post, Does, HasEnded}
 use Rattle.tn_load.specs.LoneRuns.{Lone}
-use Rattle.tn_load.specs.Plans.{Moment, Course, first_node, acts_of, Follow}
+use Rattle.tn_load.specs.Plans.{Moment, first_node, acts_of, Follow}
 
 module _ {N : Type 0} (ops : NodeOps N) (post : Post) (Q : N → List Act → Type 0) where
   -- its moments
@@ -21,7 +21,8 @@ module _ {N : Type 0} (ops : NodeOps N) (post : Post) (Q : N → List Act → Ty
   first-moments [] n end run = sym run.1
   first-moments (act ∷ acts) n end run = refl
 
-  pub follow : (acts : List Act) (n end : N) (run : Lone ops post Q acts n end) → HasEnded ops post end → Follow ops post Q (moments acts n end run) end
+  pub follow : (acts : List Act) (n end : N) (run : Lone ops post Q acts n end) → HasEnded ops post end
+      → Follow ops post Q (moments acts n end run) end
   unfolding moments
   follow [] n end run ended = (subst (λ x. Q x []) run.1 run.0, ended)
   follow (act ∷ acts) n end run ended = (

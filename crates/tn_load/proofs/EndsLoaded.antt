@@ -1,19 +1,18 @@
 -- The processors are loaded where their courses end, and all else of their memories is as at power-up.
-use Rattle.std.proofs.Common.{◌≡◌, ℕ, zero, suc, ◌+◌, ◌==◌, ◌<◌, ◌≤◌, Bool, true, List, [], ◌∷◌, length, map, All, get_or}
-use Rattle.std.proofs.Common.{Option, Some, None, refl, sym, ap, ◌∙◌, subst, arith}
-use Rattle.std.specs.Prelude.{slice_get, slice_index_or}
+use Rattle.std.proofs.Common.{◌≡◌, ℕ, suc, ◌==◌, ◌<◌, true, List, [], ◌∷◌, length, All}
+use Rattle.std.proofs.Common.{Some, refl, sym, ◌∙◌, subst, arith}
+use Rattle.std.specs.Prelude.{slice_get}
 use Rattle.std.specs.List.{AllByRecursion}
 use Rattle.std.proofs.lemmas.Bool.Decides.{nat_tests}
 use Rattle.std.proofs.lemmas.List.{ext_get_or}
 use Rattle.std.proofs.lemmas.List.Elements.{All-from_recursion}
-use Rattle.tn_word.specs.Words.{most_neg, load_base}
 use Rattle.tn_mem.specs.Memories.{block}
-use Rattle.tn_mem.proofs.Puts.{IsInside, byte_at, length-block, byte_at-block}
+use Rattle.tn_mem.proofs.Puts.{IsInside, length-block, byte_at-block}
 use Rattle.tn_stream.specs.Images.{SegmentBytes, ImageBytes}
 use Rattle.tn_node.specs.Nodes.{NodeState}
-use Rattle.tn_network.specs.Loads.{PlacedBytes, Target, StandsIn, IsLoadedNode, AreLoadedNodes}
-use Rattle.tn_load.specs.Targets.{placed, placed_all, target_of, targets_of}
-use Rattle.tn_load.specs.Inner.Lives.{LieIn, LiesIn, with_segments}
+use Rattle.tn_network.specs.Loads.{Target, StandsIn, IsLoadedNode, AreLoadedNodes}
+use Rattle.tn_load.specs.Targets.{placed_all, target_of}
+use Rattle.tn_load.specs.Inner.Lives.{LieIn}
 use Rattle.tn_load.proofs.Primaries.{HasTimers}
 use Rattle.tn_load.proofs.Lives.{Whole, at_entry, length-with_segments}
 use Rattle.tn_load.proofs.Segments.{AreApart, Stand, whole-stands}
@@ -44,7 +43,8 @@ whole-pieces image first after lies apart whole =
     (stands-all image.segments after (subst (λ n. LieIn n image.segments) (sym size) lies) stand)
 
 -- a processor at its entry whose image is whole is loaded
-pub loaded-node : (image : ImageBytes) (first after : List ℕ) → LieIn (length first) image.segments → AreApart image.segments → HasTimers after
+pub loaded-node : (image : ImageBytes) (first after : List ℕ) → LieIn (length first) image.segments → AreApart image.segments
+    → HasTimers after
     → Whole image first after → IsLoadedNode (λ m. m) (at_entry (λ m. m) image after) (target_of image)
 loaded-node image first after lies apart timers whole =
     let entry : image.entry == image.entry ≡ true = same image.entry in

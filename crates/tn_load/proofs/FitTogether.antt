@@ -1,8 +1,8 @@
 -- The plan of a load tree fits together: after power-up the network is under way in it, and it has as many
 -- picks as the tree has steps.
-use Rattle.std.proofs.Common.{◌≡◌, ℕ, zero, suc, ◌+◌, ◌*◌, ◌<◌, ◌≤◌, Bool, true, false, List, [], ◌∷◌, ◌++◌, length, map, get_or, replicate}
-use Rattle.std.proofs.Common.{Option, Some, None, refl, sym, ap, ◌∙◌, subst, arith, append-nil, length-append}
-use Rattle.std.specs.Prelude.{is_some, slice_get, slice_index_or, option_map}
+use Rattle.std.proofs.Common.{◌≡◌, ℕ, zero, suc, ◌+◌, ◌*◌, ◌<◌, false, List, [], ◌++◌, length, get_or, replicate}
+use Rattle.std.proofs.Common.{Option, Some, None, refl, sym, ap, ◌∙◌, arith, append-nil, length-append}
+use Rattle.std.specs.Prelude.{is_some, slice_get, option_map}
 use Rattle.std.proofs.lemmas.List.{length-map, length-replicate}
 use Rattle.std.proofs.lemmas.Option.{slice_get-map, slice_get-get_or}
 use Rattle.tn_net.specs.declared.networks.Far.{Far}
@@ -12,19 +12,19 @@ use Rattle.tn_net.specs.Trees.{LoadNode, node_at}
 use Rattle.tn_stream.specs.Images.{ImageBytes}
 use Rattle.tn_stream.specs.Streams.{stream}
 use Rattle.tn_stream.specs.Lengths.{load_steps}
-use Rattle.tn_stream.specs.LoadBranches.{branch_at, whole_branch}
+use Rattle.tn_stream.specs.LoadBranches.{whole_branch}
 use Rattle.tn_node.specs.Nodes.{NodeState}
-use Rattle.tn_network.specs.Boards.{BoardState, latch_at}
+use Rattle.tn_network.specs.Boards.{BoardState}
 use Rattle.tn_network.specs.Holds.{HoldState}
 use Rattle.tn_network.specs.Nets.{memory_ops}
 use Rattle.tn_network.specs.Resets.{PowerState, powered_node, reset_board}
 use Rattle.tn_load.specs.LoneRuns.{weight, is_waiting}
-use Rattle.tn_load.specs.Plans.{Course, Plan, acts_left, now, picks_left, sum_below}
-use Rattle.tn_load.specs.Shares.{IsWireEnd, other_end, taken_by, incoming, outgoing, waiting, latch_of, bytes_in}
+use Rattle.tn_load.specs.Plans.{Plan, acts_left, now, picks_left}
+use Rattle.tn_load.specs.Shares.{IsWireEnd, other_end, incoming, outgoing, waiting, latch_of, bytes_in}
 use Rattle.tn_load.specs.UnderWay.{IsUnderWay}
 use Rattle.tn_load.specs.Keep.{UnderWay, IsRooted}
 use Rattle.tn_load.specs.Inner.Lives.{acts_at}
-use Rattle.tn_load.specs.Boots.{no_power, power_at}
+use Rattle.tn_load.specs.Boots.{no_power}
 use Rattle.tn_load.specs.Inner.Loadings.{from_host, unsent, place_of, IsLoading}
 use Rattle.tn_load.proofs.Answered.{settled-life, settled-waits}
 use Rattle.tn_load.proofs.Counting.{total, total-same, sums-once}
@@ -32,8 +32,8 @@ use Rattle.tn_load.proofs.TreeCounts.{all-picks}
 use Rattle.tn_load.proofs.TreePlaces.{place-is, root-processor, under}
 use Rattle.tn_load.proofs.Onward.{follow-weaker}
 use Rattle.tn_stream.proofs.LoadBranchLaws.{parent-before}
-use Rattle.tn_load.proofs.TreeRuns.{spot, branch, power, spotted}
-use Rattle.tn_load.proofs.TreePlans.{Facts, IsPlanned, tree_plan, planned, sent-by, from_far, carried, host-gets, unwired}
+use Rattle.tn_load.proofs.TreeRuns.{branch, spotted}
+use Rattle.tn_load.proofs.TreePlans.{Facts, tree_plan, planned, from_far, carried, host-gets, unwired}
 
 abbrev no_byte : Option ℕ
 no_byte = None
@@ -69,7 +69,8 @@ module _ (network : NetworkState) (nodes : List LoadNode) (images : List ImageBy
   none-waits : (p l : ℕ) → p < length network.sizes → is_waiting l (acts_left (plan.courses p)) ≡ false
   none-waits p l inside =
       ap (is_waiting l) (planned network nodes images powers holds h p inside).acts_are
-      ∙ settled-waits (settled-life (branch network nodes images powers holds h p).root (branch network nodes images powers holds h p).below) l
+      ∙ settled-waits (settled-life (branch network nodes images powers holds h p).root
+      (branch network nodes images powers holds h p).below) l
 
   latch-first : (e : Far) → latch_of board e ≡ None
   latch-first Nothing = refl
@@ -79,7 +80,8 @@ module _ (network : NetworkState) (nodes : List LoadNode) (images : List ImageBy
   wires-first : (e : Far) → IsWireEnd network e
       → incoming plan e ≡ bytes_in (latch_of board e) ++ (outgoing plan (other_end network e) ++ unsent network rest e)
   unfolding tree_plan
-  wires-first e end = go e end ∙ ap (λ x. bytes_in x ++ (outgoing plan (other_end network e) ++ unsent network rest e)) (sym (latch-first e))
+  wires-first e end = go e end ∙ ap (λ x. bytes_in x ++ (outgoing plan (other_end network e) ++ unsent network rest e))
+      (sym (latch-first e))
     where
       sent : (f : Far)
           → from_far network nodes images powers holds h (stream (whole_branch images nodes)) f ≡ outgoing plan f ++ from_host rest f
@@ -165,7 +167,8 @@ module _ (network : NetworkState) (nodes : List LoadNode) (images : List ImageBy
         courses = λ p inside. let c = u.courses p inside in record {
           boot = c.boot;
           follow = follow-weaker memory_ops (record { holds = holds; processor = p; boot = (plan.courses p).boot })
-              (Facts network nodes images powers holds h p) (λ n left. Unit {0}) (λ n left q. tt) (plan.courses p).moments (plan.courses p).end c.follow;
+              (Facts network nodes images powers holds h p) (λ n left. Unit {0}) (λ n left q. tt) (plan.courses p).moments
+              (plan.courses p).end c.follow;
           answered = c.answered;
         };
         bytes = u.bytes;
@@ -192,7 +195,8 @@ module _ (network : NetworkState) (nodes : List LoadNode) (images : List ImageBy
           → place_of nodes q < place_of nodes p
       falls p q m inside far zero is =
           let at = spotted network nodes images powers holds h p inside in
-          let root : p ≡ network.root = sym at.processor ∙ (ap (λ k. (node_at nodes k).processor) is ∙ root-processor network nodes h.pairing h.tree h.whole) in
+          let root : p ≡ network.root = sym at.processor
+          ∙ (ap (λ k. (node_at nodes k).processor) is ∙ root-processor network nodes h.pairing h.tree h.whole) in
           let link : (plan.courses p).boot ≡ network.root_link =
           (planned network nodes images powers holds h p inside).boot ∙ (ap (λ k. (node_at nodes k).boot_link) is ∙ h.tree.boot) in
           let host : far_at network p (plan.courses p).boot ≡ Host =
@@ -202,11 +206,13 @@ module _ (network : NetworkState) (nodes : List LoadNode) (images : List ImageBy
       falls p q m inside far (suc k) is =
           let at = spotted network nodes images powers holds h p inside in
           let up = under network nodes h.pairing h.tree h.whole (place_of nodes p) (omega (arith, is)) at.within in
-          let there : far_at network p (plan.courses p).boot ≡ Link (node_at nodes up.parent).processor (node_at nodes (place_of nodes p)).parent_link =
+          let there : far_at network p (plan.courses p).boot ≡ Link (node_at nodes up.parent).processor
+          (node_at nodes (place_of nodes p)).parent_link =
           ap (λ x. far_at network p x) (planned network nodes images powers holds h p inside).boot
           ∙ (ap (λ x. far_at network x (node_at nodes (place_of nodes p)).boot_link) (sym at.processor) ∙ up.far) in
           let same : (node_at nodes up.parent).processor ≡ q =
           link_first (node_at nodes up.parent).processor (node_at nodes (place_of nodes p)).parent_link q m (sym there ∙ far) in
-          let spot_is : place_of nodes q ≡ up.parent = ap (place_of nodes) (sym same) ∙ place-is network nodes h.pairing h.tree h.whole up.parent up.within in
+          let spot_is : place_of nodes q ≡ up.parent =
+          ap (place_of nodes) (sym same) ∙ place-is network nodes h.pairing h.tree h.whole up.parent up.within in
           let before = parent-before nodes (length network.sizes) h.whole (place_of nodes p) up.parent at.within up.is in
           omega (arith, spot_is, before)

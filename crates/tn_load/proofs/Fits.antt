@@ -40,21 +40,34 @@ module _ {A : Type 0} (front back : A → List ℕ) where
   other : (m l : ℕ) → m ≢ l → m == l ≡ false
   other m l e = grind (arith, nat_tests)
 
-  pub part_at-child : (l : ℕ) (at : A) (its children : Children A) → IsChild l at its children → AreApart children → part_at front back l children ≡ part front back at its
+  pub part_at-child : (l : ℕ) (at : A) (its children : Children A) → IsChild l at its children → AreApart children
+      → part_at front back l children ≡ part front back at its
   unfolding part_at
   part_at-child l at its none x apart = elim x [ ]
-  part_at-child l at its (child m here below others) first apart = rw (same l, part_at-free l others apart.0) (append-nil (part front back at its))
+  part_at-child l at its (child m here below others) first apart =
+      rw (same l, part_at-free l others apart.0) (append-nil (part front back at its))
   part_at-child l at its (child m here below others) (later e h) apart = rw (other m l e) (part_at-child l at its others h apart.1)
 
 -- a child takes what its parent sends to it
-pub child-fits : (site : Site) (below : Children Site) (l : ℕ) (at : Site) (its : Children Site) → IsChild l at its below → AreApart below → takes_of (life at its) ≡ sends_of l (life site below)
+pub child-fits : (site : Site) (below : Children Site) (l : ℕ) (at : Site) (its : Children Site) → IsChild l at its below → AreApart below
+    → takes_of (life at its) ≡ sends_of l (life site below)
 unfolding wave
 child-fits site below l at its h apart =
     takes_of-life at its
     ∙ (append_assoc (part own_load nothing at its) (part nothing nop_of at its) (part nothing run_of at its)
-    ∙ sym (sends_of-life l site below ∙ rw (part_at-child own_load nothing l at its below h apart, part_at-child nothing nop_of l at its below h apart, part_at-child nothing run_of l at its below h apart) refl))
+    ∙ sym (sends_of-life l site below ∙ rw (
+      part_at-child own_load nothing l at its below h apart,
+      part_at-child nothing nop_of l at its
+          below h apart,
+      part_at-child nothing run_of l at its below h apart,
+    ) refl))
 
 -- by any other link a processor sends nothing
 pub free-sends : (site : Site) (below : Children Site) (l : ℕ) → IsFree l below → sends_of l (life site below) ≡ []
 free-sends site below l free =
-    sends_of-life l site below ∙ rw (part_at-free own_load nothing l below free, part_at-free nothing nop_of l below free, part_at-free nothing run_of l below free) refl
+    sends_of-life l site below ∙ rw (
+      part_at-free own_load nothing l below free,
+      part_at-free nothing nop_of l below free,
+      part_at-free
+          nothing run_of l below free,
+    ) refl

@@ -16,27 +16,43 @@ abbrev pub running : {M : Type 0} → State M → NodeState M
 running s = record { cpu = s; stage = Over; expects = nothing_expected; inputs = all_closed; outputs = all_closed }
 
 abbrev pub inputting : {M : Type 0} → ℕ → Engine → State M → NodeState M
-inputting k e s = record { cpu = s; stage = Over; expects = nothing_expected; inputs = slice_set all_closed k (Some e); outputs = all_closed }
+inputting k e s = record {
+  cpu = s;
+  stage = Over;
+  expects = nothing_expected;
+  inputs = slice_set all_closed k (Some e);
+  outputs = all_closed;
+}
 
 abbrev pub outputting : {M : Type 0} → ℕ → Engine → State M → NodeState M
-outputting l e s = record { cpu = s; stage = Over; expects = nothing_expected; inputs = all_closed; outputs = slice_set all_closed l (Some e) }
+outputting l e s = record {
+  cpu = s;
+  stage = Over;
+  expects = nothing_expected;
+  inputs = all_closed;
+  outputs = slice_set all_closed l (Some e);
+}
 
 -- one act, and then others
 infixr 20 ◌⨾◌
-pub ◌⨾◌ : {M : Type 0} {access : Access M} {space : List ℕ → M} {Q : List ℕ → Type 0} {k : ℕ} {xs ys : List Act} {n t u : NodeState M} → Leads access space Q k xs n t → Leads access space Q k ys t u → Leads access space Q k (xs ++ ys) n u
+pub ◌⨾◌ : {M : Type 0} {access : Access M} {space : List ℕ → M} {Q : List ℕ → Type 0} {k : ℕ} {xs ys : List Act} {n t u : NodeState M}
+    → Leads access space Q k xs n t → Leads access space Q k ys t u → Leads access space Q k (xs ++ ys) n u
 done ⨾ b = b
 more a q r ⨾ b = more a q (r ⨾ b)
 
-pub one : {M : Type 0} {access : Access M} {space : List ℕ → M} {Q : List ℕ → Type 0} {k : ℕ} {x : Act} {n t : NodeState M} → NodeDoes access k x n t → (m : List ℕ) → t.cpu.memory ≡ space m → Q m → Leads access space Q k (x ∷ []) n t
+pub one : {M : Type 0} {access : Access M} {space : List ℕ → M} {Q : List ℕ → Type 0} {k : ℕ} {x : Act} {n t : NodeState M}
+    → NodeDoes access k x n t → (m : List ℕ) → t.cpu.memory ≡ space m → Q m → Leads access space Q k (x ∷ []) n t
 one d m is q = more d (record { memory = m; is = is; fact = q }) done
 
 -- what holds of each memory may be less
-pub weaken : {M : Type 0} {access : Access M} {space : List ℕ → M} {k : ℕ} (Q R : List ℕ → Type 0) → ((m : List ℕ) → Q m → R m) → {xs : List Act} {n t : NodeState M} → Leads access space Q k xs n t → Leads access space R k xs n t
+pub weaken : {M : Type 0} {access : Access M} {space : List ℕ → M} {k : ℕ} (Q R : List ℕ → Type 0) → ((m : List ℕ) → Q m → R m)
+    → {xs : List Act} {n t : NodeState M} → Leads access space Q k xs n t → Leads access space R k xs n t
 weaken Q R h done = done
 weaken Q R h (more a q r) = more a (record { memory = q.memory; is = q.is; fact = h q.memory q.fact }) (weaken Q R h r)
 
 -- the same for any list of acts that is equal
-pub along : {M : Type 0} {access : Access M} {space : List ℕ → M} {Q : List ℕ → Type 0} {k : ℕ} {xs ys : List Act} {n t : NodeState M} → xs ≡ ys → Leads access space Q k xs n t → Leads access space Q k ys n t
+pub along : {M : Type 0} {access : Access M} {space : List ℕ → M} {Q : List ℕ → Type 0} {k : ℕ} {xs ys : List Act} {n t : NodeState M}
+    → xs ≡ ys → Leads access space Q k xs n t → Leads access space Q k ys n t
 along {access = access} {space = space} {Q = Q} {k = k} {n = n} {t = t} e h = subst (λ zs. Leads access space Q k zs n t) e h
 
 -- a fact of each of the four links

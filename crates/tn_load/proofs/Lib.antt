@@ -45,6 +45,7 @@ pub mod EndsLoaded
 pub mod Onward
 pub mod WholeBefore
 pub mod Booting
+pub mod BootingOne
 pub mod NetworkLaws
 pub mod Sameness
 pub mod Diamonds

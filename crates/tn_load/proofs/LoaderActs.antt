@@ -1,5 +1,6 @@
 -- What the acts of a processor take, send and weigh.
-use Rattle.std.proofs.Common.{◌≡◌, ℕ, zero, suc, ◌+◌, ◌*◌, ◌-◌, ◌==◌, Bool, true, false, List, [], ◌∷◌, ◌++◌, length, take, drop, refl, sym, ap, ◌∙◌, append_assoc, append-nil, length-append, arith}
+use Rattle.std.proofs.Common.{◌≡◌, ℕ, zero, suc, ◌+◌, ◌*◌, ◌-◌, ◌==◌, Bool, true, false, List, [], ◌∷◌, ◌++◌, length, take, drop, refl}
+use Rattle.std.proofs.Common.{sym, ap, ◌∙◌, append_assoc, append-nil, length-append, arith}
 use Rattle.std.specs.Prelude.{if◌then◌else◌, ◌/◌}
 use Rattle.std.proofs.lemmas.List.{take-append-drop}
 use Rattle.tn_word.specs.Channels.{out_channel_of}
@@ -10,11 +11,13 @@ use Rattle.tn_stream.specs.Images.{SegmentBytes, ImageBytes}
 use Rattle.tn_stream.specs.Lengths.{forward_steps}
 use Rattle.tn_stream.specs.Branches.{Children}
 use Rattle.tn_stream.specs.Branches.Children.{none, child}
-use Rattle.tn_stream.specs.Streams.{Site, own_load, wave, wave_below, forwarded, loader, load_of, loads_of, load_part, sync_part, start_part, nothing, nop_of, run_of}
+use Rattle.tn_stream.specs.Streams.{Site, own_load, wave, wave_below, forwarded, loader, load_of, loads_of, load_part, sync_part}
+use Rattle.tn_stream.specs.Streams.{start_part, nothing, nop_of, run_of}
 use Rattle.tn_load.specs.Acts.{Act}
 use Rattle.tn_load.specs.LoneRuns.{takes_of, sends_of, weight}
 use Rattle.tn_load.specs.Acts.Act.{Step, Takes, Sends, Acks}
-use Rattle.tn_load.specs.Inner.Lives.{takes, sends, steps, forward_loop, loader_acts, load_acts, loads_acts, forward_acts, nop_acts, run_acts, part, part_at, forwards_acts, life}
+use Rattle.tn_load.specs.Inner.Lives.{takes, sends, steps, forward_loop, loader_acts, load_acts, loads_acts, forward_acts, nop_acts}
+use Rattle.tn_load.specs.Inner.Lives.{run_acts, part, part_at, forwards_acts, life}
 
 -- ---- what is taken
 
@@ -54,15 +57,25 @@ then_steps n rest = takes_of-append (steps n) rest ∙ ap (λ (front : List ℕ)
 pub takes_of-forward_loop : (q l : ℕ) (bytes : List ℕ) → takes_of (forward_loop q l bytes) ≡ bytes
 unfolding forward_loop
 takes_of-forward_loop zero l bytes = simp (then_steps, then_takes, then_sends, takes_of-steps, append-nil)
-takes_of-forward_loop (suc q) l bytes = simp (then_steps, then_takes, then_sends, takes_of-forward_loop q l (drop 128 bytes), take-append-drop)
+takes_of-forward_loop (suc q) l bytes = simp (
+  then_steps,
+  then_takes,
+  then_sends,
+  takes_of-forward_loop q l (drop 128 bytes),
+  take-append-drop,
+)
 
-pub takes_of-forwards : {A : Type 0} (first last : A → List ℕ) (children : Children A) → takes_of (forwards_acts first last children) ≡ wave_below first last children
+pub takes_of-forwards : {A : Type 0} (first last : A → List ℕ) (children : Children A)
+    → takes_of (forwards_acts first last children) ≡ wave_below first last children
 unfolding forwards_acts wave_below takes_of
 takes_of-forwards first last none = refl
 takes_of-forwards first last (child l here below others) =
     let bytes : List ℕ = part first last here below in
     takes_of-append (forward_acts l bytes) (forwards_acts first last others)
-    ∙ (ap (λ (front : List ℕ). front ++ takes_of (forwards_acts first last others)) (then_takes (forward_command (out_channel_of l) (length bytes)) (steps 7 ++ forward_loop ((length bytes - 1) / 128) l bytes) ∙ ap (λ (rest : List ℕ). forward_command (out_channel_of l) (length bytes) ++ rest) (takes_of-forward_loop ((length bytes - 1) / 128) l bytes))
+    ∙ (ap (λ (front : List ℕ). front ++ takes_of (forwards_acts first last others))
+    (then_takes (forward_command (out_channel_of l) (length bytes)) (steps 7 ++ forward_loop ((length bytes - 1) / 128) l bytes)
+    ∙ ap (λ (rest : List ℕ). forward_command (out_channel_of l) (length bytes) ++ rest)
+    (takes_of-forward_loop ((length bytes - 1) / 128) l bytes))
     ∙ ap (λ (back : List ℕ). forwarded l bytes ++ back) (takes_of-forwards first last others))
 
 pub takes_of-loads : (segments : List SegmentBytes) → takes_of (loads_acts segments) ≡ loads_of segments
@@ -70,7 +83,9 @@ unfolding takes_of
 takes_of-loads [] = refl
 takes_of-loads (s ∷ rest) =
     takes_of-append (load_acts s) (loads_acts rest)
-    ∙ (ap (λ (front : List ℕ). front ++ takes_of (loads_acts rest)) (then_takes (load_command s.base (length s.bytes)) (steps 7 ++ (takes s.bytes ++ steps 6)) ∙ ap (λ (back : List ℕ). load_command s.base (length s.bytes) ++ back) (then_takes s.bytes (steps 6) ∙ append-nil s.bytes))
+    ∙ (ap (λ (front : List ℕ). front ++ takes_of (loads_acts rest))
+    (then_takes (load_command s.base (length s.bytes)) (steps 7 ++ (takes s.bytes ++ steps 6))
+    ∙ ap (λ (back : List ℕ). load_command s.base (length s.bytes) ++ back) (then_takes s.bytes (steps 6) ∙ append-nil s.bytes))
     ∙ ap (λ (back : List ℕ). load_of s ++ back) (takes_of-loads rest))
 
 joined : (xs ys : List Act) (a b : List ℕ) → takes_of xs ≡ a → takes_of ys ≡ b → takes_of (xs ++ ys) ≡ a ++ b
@@ -92,7 +107,9 @@ arranged : (a b c d e f g : List ℕ) → a ++ (b ++ (c ++ (d ++ (e ++ (f ++ g))
 arranged a b c d e f g = simp (append_assoc, append-nil)
 
 -- a processor takes its part of the stream
-pub takes_of-life : (site : Site) (below : Children Site) → takes_of (life site below) ≡ load_part (record { root = site; below = below }) ++ sync_part (record { root = site; below = below }) ++ start_part (record { root = site; below = below })
+pub takes_of-life : (site : Site) (below : Children Site)
+    → takes_of (life site below) ≡ load_part (record { root = site; below = below }) ++ sync_part (record { root = site; below = below })
+    ++ start_part (record { root = site; below = below })
 unfolding life wave
 takes_of-life site below =
     let image : ImageBytes = site.image in
@@ -101,8 +118,10 @@ takes_of-life site below =
     (joined (forwards_acts own_load nothing below) _ (wave_below own_load nothing below) _ (takes_of-forwards own_load nothing below)
     (joined (forwards_acts nothing nop_of below) _ (wave_below nothing nop_of below) _ (takes_of-forwards nothing nop_of below)
     (joined nop_acts _ nop_command _ takes_of-nop
-    (joined (forwards_acts nothing run_of below) (run_acts image) (wave_below nothing run_of below) (run_command image.entry image.wptr) (takes_of-forwards nothing run_of below) (takes_of-run image))))))
-    ∙ arranged (loader site.boot) (loads_of image.segments) (wave_below own_load nothing below) (wave_below nothing nop_of below) nop_command (wave_below nothing run_of below) (run_command image.entry image.wptr)
+    (joined (forwards_acts nothing run_of below) (run_acts image) (wave_below nothing run_of below) (run_command image.entry image.wptr)
+    (takes_of-forwards nothing run_of below) (takes_of-run image))))))
+    ∙ arranged (loader site.boot) (loads_of image.segments) (wave_below own_load nothing below) (wave_below nothing nop_of below)
+    nop_command (wave_below nothing run_of below) (run_command image.entry image.wptr)
 
 -- ---- what is sent by a link
 
@@ -113,7 +132,9 @@ sends_of-append l (Step ∷ xs) ys = sends_of-append l xs ys
 sends_of-append l (Takes byte ∷ xs) ys = sends_of-append l xs ys
 sends_of-append l (Sends link byte ∷ xs) ys = go (sends_of-append l xs ys) (link == l)
   where
-    go : sends_of l (xs ++ ys) ≡ sends_of l xs ++ sends_of l ys → (test : Bool) → (if test then byte ∷ sends_of l (xs ++ ys) else sends_of l (xs ++ ys)) ≡ (if test then byte ∷ sends_of l xs else sends_of l xs) ++ sends_of l ys
+    go : sends_of l (xs ++ ys) ≡ sends_of l xs ++ sends_of l ys → (test : Bool)
+        → (if test then byte ∷ sends_of l (xs ++ ys) else sends_of l (xs ++ ys)) ≡ (if test then byte ∷ sends_of l xs else sends_of l xs)
+        ++ sends_of l ys
     go rest true = ap (λ (bytes : List ℕ). byte ∷ bytes) rest
     go rest false = rest
 sends_of-append l (Acks link ∷ xs) ys = sends_of-append l xs ys
@@ -141,7 +162,9 @@ sends_of-other l m (byte ∷ bytes) other = rw other (sends_of-other l m bytes o
 sends_joined : (l : ℕ) (xs ys : List Act) (a b : List ℕ) → sends_of l xs ≡ a → sends_of l ys ≡ b → sends_of l (xs ++ ys) ≡ a ++ b
 sends_joined l xs ys a b e f = sends_of-append l xs ys ∙ cc
 
-sends_of-forward_loop : (l : ℕ) (f : List ℕ → List ℕ) (test : Bool) (m : ℕ) → ((bytes : List ℕ) → sends_of l (sends m bytes) ≡ (if test then bytes else [])) → (q : ℕ) (bytes : List ℕ) → sends_of l (forward_loop q m bytes) ≡ (if test then bytes else [])
+sends_of-forward_loop : (l : ℕ) (f : List ℕ → List ℕ) (test : Bool) (m : ℕ)
+    → ((bytes : List ℕ) → sends_of l (sends m bytes) ≡ (if test then bytes else [])) → (q : ℕ) (bytes : List ℕ)
+    → sends_of l (forward_loop q m bytes) ≡ (if test then bytes else [])
 unfolding forward_loop
 sends_of-forward_loop l f test m each zero bytes =
     sends_joined l (steps 11) _ [] _ (sends_of-steps l 11)
@@ -153,8 +176,10 @@ sends_of-forward_loop l f test m each (suc q) bytes =
     sends_joined l (steps 13) _ [] _ (sends_of-steps l 13)
     (sends_joined l (takes (take 128 bytes)) _ [] _ (sends_of-takes l (take 128 bytes))
     (sends_joined l (steps 4) _ [] _ (sends_of-steps l 4)
-    (sends_joined l (sends m (take 128 bytes)) _ (if test then take 128 bytes else []) (if test then drop 128 bytes else []) (each (take 128 bytes))
-    (sends_joined l (steps 9) (forward_loop q m (drop 128 bytes)) [] (if test then drop 128 bytes else []) (sends_of-steps l 9) (sends_of-forward_loop l f test m each q (drop 128 bytes))))))
+    (sends_joined l (sends m (take 128 bytes)) _ (if test then take 128 bytes else []) (if test then drop 128 bytes else [])
+    (each (take 128 bytes))
+    (sends_joined l (steps 9) (forward_loop q m (drop 128 bytes)) [] (if test then drop 128 bytes else []) (sends_of-steps l 9)
+    (sends_of-forward_loop l f test m each q (drop 128 bytes))))))
     ∙ both test
   where
     both : (t : Bool) → (if t then take 128 bytes else []) ++ (if t then drop 128 bytes else []) ≡ (if t then bytes else [])
@@ -168,15 +193,18 @@ each_test l m false e bytes = sends_of-other l m bytes e
 sends_of-command : (l op x n : ℕ) → sends_of l (takes (command_bytes op x n)) ≡ []
 sends_of-command l op x n = sends_of-takes l (command_bytes op x n)
 
-pub sends_of-forwards : {A : Type 0} (first last : A → List ℕ) (l : ℕ) (children : Children A) → sends_of l (forwards_acts first last children) ≡ part_at first last l children
+pub sends_of-forwards : {A : Type 0} (first last : A → List ℕ) (l : ℕ) (children : Children A)
+    → sends_of l (forwards_acts first last children) ≡ part_at first last l children
 unfolding forwards_acts part_at sends_of
 sends_of-forwards first last l none = refl
 sends_of-forwards first last l (child m here below others) =
     let bytes : List ℕ = part first last here below in
     let q : ℕ = (length bytes - 1) / 128 in
     sends_joined l (forward_acts m bytes) (forwards_acts first last others) (if m == l then bytes else []) (part_at first last l others)
-    (sends_joined l (takes (forward_command (out_channel_of m) (length bytes))) _ [] _ (sends_of-takes l (forward_command (out_channel_of m) (length bytes)))
-    (sends_joined l (steps 7) (forward_loop q m bytes) [] (if m == l then bytes else []) (sends_of-steps l 7) (sends_of-forward_loop l (λ x. x) (m == l) m (each_test l m (m == l) refl) q bytes)))
+    (sends_joined l (takes (forward_command (out_channel_of m) (length bytes))) _ [] _
+    (sends_of-takes l (forward_command (out_channel_of m) (length bytes)))
+    (sends_joined l (steps 7) (forward_loop q m bytes) [] (if m == l then bytes else []) (sends_of-steps l 7)
+    (sends_of-forward_loop l (λ x. x) (m == l) m (each_test l m (m == l) refl) q bytes)))
     (sends_of-forwards first last l others)
 
 sends_of-loads : (l : ℕ) (segments : List SegmentBytes) → sends_of l (loads_acts segments) ≡ []
@@ -184,8 +212,10 @@ unfolding sends_of
 sends_of-loads l [] = refl
 sends_of-loads l (s ∷ rest) =
     sends_joined l (load_acts s) (loads_acts rest) [] []
-    (sends_joined l (takes (load_command s.base (length s.bytes))) (steps 7 ++ (takes s.bytes ++ steps 6)) [] [] (sends_of-takes l (load_command s.base (length s.bytes)))
-    (sends_joined l (steps 7) (takes s.bytes ++ steps 6) [] [] (sends_of-steps l 7) (sends_joined l (takes s.bytes) (steps 6) [] [] (sends_of-takes l s.bytes) (sends_of-steps l 6))))
+    (sends_joined l (takes (load_command s.base (length s.bytes))) (steps 7 ++ (takes s.bytes ++ steps 6)) [] []
+    (sends_of-takes l (load_command s.base (length s.bytes)))
+    (sends_joined l (steps 7) (takes s.bytes ++ steps 6) [] [] (sends_of-steps l 7)
+    (sends_joined l (takes s.bytes) (steps 6) [] [] (sends_of-takes l s.bytes) (sends_of-steps l 6))))
     (sends_of-loads l rest)
 
 sends_of-loader : (l k : ℕ) → sends_of l (loader_acts k) ≡ []
@@ -201,7 +231,9 @@ unfolding sends_of command_bytes
 sends_of-run l image = refl
 
 -- by each link a processor sends what the child there gets, and nothing by any other link
-pub sends_of-life : (l : ℕ) (site : Site) (below : Children Site) → sends_of l (life site below) ≡ part_at own_load nothing l below ++ (part_at nothing nop_of l below ++ part_at nothing run_of l below)
+pub sends_of-life : (l : ℕ) (site : Site) (below : Children Site)
+    → sends_of l (life site below) ≡ part_at own_load nothing l below ++
+    (part_at nothing nop_of l below ++ part_at nothing run_of l below)
 unfolding life
 sends_of-life l site below =
     let image : ImageBytes = site.image in
@@ -213,7 +245,8 @@ sends_of-life l site below =
     (sends_joined l (forwards_acts own_load nothing below) _ x _ (sends_of-forwards own_load nothing l below)
     (sends_joined l (forwards_acts nothing nop_of below) _ y _ (sends_of-forwards nothing nop_of l below)
     (sends_joined l nop_acts _ [] _ (sends_of-nop l)
-    (sends_joined l (forwards_acts nothing run_of below) (run_acts image) z [] (sends_of-forwards nothing run_of l below) (sends_of-run l image))))))
+    (sends_joined l (forwards_acts nothing run_of below) (run_acts image) z [] (sends_of-forwards nothing run_of l below)
+    (sends_of-run l image))))))
     ∙ rw (append-nil z) refl
 
 -- ---- how many picks
@@ -247,18 +280,26 @@ weighs xs ys a b e f = weight-append xs ys ∙ cc
 weight-forward_loop : (q l : ℕ) (bytes : List ℕ) → weight (forward_loop q l bytes) ≡ 2 * length bytes + 26 + 26 * q
 unfolding forward_loop
 weight-forward_loop zero l bytes =
-    let e = weighs (steps 11) _ 11 _ (weight-steps 11) (weighs (takes bytes) _ (length bytes) _ (weight-takes bytes) (weighs (steps 4) _ 4 _ (weight-steps 4) (weighs (sends l bytes) (steps 11) (length bytes) 11 (weight-sends l bytes) (weight-steps 11)))) in
+    let e = weighs (steps 11) _ 11 _ (weight-steps 11)
+    (weighs (takes bytes) _ (length bytes) _ (weight-takes bytes)
+    (weighs (steps 4) _ 4 _ (weight-steps 4) (weighs (sends l bytes) (steps 11) (length bytes) 11 (weight-sends l bytes)
+    (weight-steps 11)))) in
     omega arith
 weight-forward_loop (suc q) l bytes =
     let front : List ℕ = take 128 bytes in
     let rest : List ℕ = drop 128 bytes in
     let whole : length front + length rest ≡ length bytes = sym (length-append front rest) ∙ ap length (take-append-drop 128 bytes) in
-    let e = weighs (steps 13) _ 13 _ (weight-steps 13) (weighs (takes front) _ (length front) _ (weight-takes front) (weighs (steps 4) _ 4 _ (weight-steps 4) (weighs (sends l front) _ (length front) _ (weight-sends l front) (weighs (steps 9) (forward_loop q l rest) 9 (2 * length rest + 26 + 26 * q) (weight-steps 9) (weight-forward_loop q l rest))))) in
+    let e = weighs (steps 13) _ 13 _ (weight-steps 13)
+    (weighs (takes front) _ (length front) _ (weight-takes front)
+    (weighs (steps 4) _ 4 _ (weight-steps 4) (weighs (sends l front) _ (length front) _ (weight-sends l front)
+    (weighs (steps 9) (forward_loop q l rest) 9 (2 * length rest + 26 + 26 * q) (weight-steps 9) (weight-forward_loop q l rest))))) in
     omega arith
 
 pub weight-forward : (l : ℕ) (bytes : List ℕ) → weight (forward_acts l bytes) ≡ 12 + 2 * length bytes + forward_steps (length bytes)
 unfolding command_bytes
 weight-forward l bytes =
     let q : ℕ = (length bytes - 1) / 128 in
-    let e = weighs (takes (forward_command (out_channel_of l) (length bytes))) _ 12 _ (weight-takes (forward_command (out_channel_of l) (length bytes))) (weighs (steps 7) (forward_loop q l bytes) 7 (2 * length bytes + 26 + 26 * q) (weight-steps 7) (weight-forward_loop q l bytes)) in
+    let e = weighs (takes (forward_command (out_channel_of l) (length bytes))) _ 12 _
+    (weight-takes (forward_command (out_channel_of l) (length bytes)))
+    (weighs (steps 7) (forward_loop q l bytes) 7 (2 * length bytes + 26 + 26 * q) (weight-steps 7) (weight-forward_loop q l bytes)) in
     omega arith

@@ -1,5 +1,6 @@
 -- The lone run of a node over a space is a lone run of it in any network.
-use Rattle.std.proofs.Common.{◌≡◌, ◌≢◌, ◌⊎◌, inl, inr, ℕ, ◌==◌, ◌<◌, ◌≤◌, Bool, true, false, List, [], ◌∷◌, Option, Some, None, refl, ap, ◌∙◌, arith}
+use Rattle.std.proofs.Common.{◌≡◌, ◌≢◌, inl, inr, ℕ, ◌==◌, ◌<◌, ◌≤◌, Bool, true, false, List, [], ◌∷◌, refl}
+use Rattle.std.proofs.Common.{arith}
 use Rattle.std.specs.Prelude.{◌&&◌, not, nat_lt}
 use Rattle.std.proofs.lemmas.Bool.Decides.{nat_tests}
 use Rattle.tn_word.specs.Words.{load_base}
@@ -8,16 +9,15 @@ use Rattle.tn_cpu.specs.declared.outcomes.Life.{Life}
 use Rattle.tn_cpu.specs.declared.outcomes.Life.TheVariants.{Running, Idle, Stopped}
 use Rattle.tn_node.specs.declared.modes.Stage.{Stage}
 use Rattle.tn_node.specs.declared.modes.Stage.TheVariants.{Reset, Poking, Peeking, Replying, Booting, Refused, Over}
-use Rattle.tn_node.specs.Nodes.{NodeState, is_over, mode_at, mode_of}
-use Rattle.tn_node.specs.Links.{wants, offers, awaits}
+use Rattle.tn_node.specs.Nodes.{NodeState, is_over, mode_of}
 use Rattle.tn_node.proofs.Awaiting.{awaits-offers}
 use Rattle.tn_network.specs.Holds.{HoldState, entry_of}
 use Rattle.tn_network.specs.NodeOps.{NodeOps, is_running as runs_in, stands_at, node_ops}
-use Rattle.tn_load.specs.Acts.{Act, Post, may_step, OffersNone, WantsNone, WantsAlone, OnlySteps, OnlyTakes, OnlySends, Does, HasEnded}
+use Rattle.tn_load.specs.Acts.{Act, Post, WantsAlone, OnlySteps, OnlyTakes, OnlySends, Does}
 use Rattle.tn_load.specs.Acts.Act.{Step, Takes, Sends, Acks}
 use Rattle.tn_load.specs.LoneRuns.{Lone}
 use Rattle.tn_load.specs.Inner.NodeActs.{is_running, is_idle, only_steps, only_takes, only_takes_at, only_sends, NodeDoes, NodeLone}
-use Rattle.tn_load.proofs.Allows.{IsMute, IsTaker, IsSender, steps-mute, takes-taker, sends-sender}
+use Rattle.tn_load.proofs.Allows.{steps-mute, takes-taker, sends-sender}
 
 both : (a b : Bool) → a && b ≡ true → (a ≡ true) × (b ≡ true)
 both true b e = (refl, e)
@@ -78,7 +78,8 @@ module _ {M : Type 0} (access : Access M) (holds : HoldState) (p k : ℕ) (link 
       let life : n.cpu.life ≡ Running = runs_life n.cpu.life b.0 in
       let runs : runs_in (mode_of n) ≡ true = rw (stage, life) refl in
       let apart : n.cpu.iptr == entry_of holds p ≡ false = elsewhere n.cpu.iptr (entry_of holds p) c.0 above in
-      let off : stands_at (entry_of holds p) n ≡ false = unless_there (runs_in (mode_of n)) (n.cpu.iptr == entry_of holds p) (n.cpu.oreg == 0) apart in
+      let off : stands_at (entry_of holds p) n ≡ false =
+      unless_there (runs_in (mode_of n)) (n.cpu.iptr == entry_of holds p) (n.cpu.oreg == 0) apart in
       record {
         may = not_held (runs_in (mode_of n)) holds.held (stands_at (entry_of holds p) n) runs off;
         wants = λ l low. (steps-mute access n h l low).takes_none;
@@ -94,7 +95,8 @@ module _ {M : Type 0} (access : Access M) (holds : HoldState) (p k : ℕ) (link 
       let a = both _ _ h in
       let b = both _ _ a.1 in
       let c = both _ _ b.1 in
-      unless_there (runs_in (mode_of n)) (n.cpu.iptr == entry_of holds p) (n.cpu.oreg == 0) (elsewhere n.cpu.iptr (entry_of holds p) c.0 above)
+      unless_there (runs_in (mode_of n)) (n.cpu.iptr == entry_of holds p) (n.cpu.oreg == 0)
+      (elsewhere n.cpu.iptr (entry_of holds p) c.0 above)
     where
       elsewhere : (x y : ℕ) → nat_lt x load_base ≡ true → load_base ≤ y → x == y ≡ false
       elsewhere x y less more = grind (arith, nat_tests)

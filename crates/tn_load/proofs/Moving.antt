@@ -1,5 +1,6 @@
 -- Inputs and outputs of the loader's process: how each begins, moves its bytes and ends.
-use Rattle.std.proofs.Common.{add-zero, ◌≡◌, ℕ, suc, ◌+◌, ◌==◌, ◌<◌, ◌≤◌, ◌%◌, ◌^◌, true, false, List, [], ◌∷◌, Some, None, Ok, refl, ◌∙◌, subst, arith}
+use Rattle.std.proofs.Common.{add-zero, ◌≡◌, ℕ, suc, ◌+◌, ◌==◌, ◌<◌, ◌≤◌, ◌%◌, ◌^◌, true, false, List, [], ◌∷◌, Some, None, Ok, refl, ◌∙◌}
+use Rattle.std.proofs.Common.{subst, arith}
 use Rattle.std.specs.Prelude.{nat_lt, ◌-◌, length}
 use Rattle.std.specs.Int.{w32, to_le_bytes}
 use Rattle.std.proofs.lemmas.Bool.Decides.{nat_tests}
@@ -84,11 +85,37 @@ room-word m a aligned room = grind (arith, nat_tests)
 -- a processor of the loader that executes, and one whose process waits
 abbrev pub awake : {M : Type 0} → (List ℕ → M) → Reg → Reg → Reg → ℕ → ℕ → ℕ → List ℕ → State M
 awake space a b c oreg iptr wptr m =
-    record { memory = space m; a = a; b = b; c = c; oreg = oreg; iptr = iptr; wptr = wptr; front = Word not_process; back = 0; error = false; halt = false; life = Running }
+    record {
+      memory = space m;
+      a = a;
+      b = b;
+      c = c;
+      oreg = oreg;
+      iptr = iptr;
+      wptr = wptr;
+      front = Word not_process;
+      back = 0;
+      error = false;
+      halt = false;
+      life = Running;
+    }
 
 abbrev pub asleep : {M : Type 0} → (List ℕ → M) → List ℕ → State M
 asleep space m =
-    record { memory = space m; a = Undefined; b = Undefined; c = Undefined; oreg = 0; iptr = 0; wptr = 0; front = Word not_process; back = 0; error = false; halt = false; life = Idle }
+    record {
+      memory = space m;
+      a = Undefined;
+      b = Undefined;
+      c = Undefined;
+      oreg = 0;
+      iptr = 0;
+      wptr = 0;
+      front = Word not_process;
+      back = 0;
+      error = false;
+      halt = false;
+      life = Idle;
+    }
 
 abbrev pub resumes : {M : Type 0} → (List ℕ → M) → ℕ → ℕ → List ℕ → State M
 resumes space iptr wptr m = awake space Undefined Undefined Undefined 0 iptr wptr m
@@ -105,94 +132,174 @@ module _ {M : Type 0} (access : Access M) (space : List ℕ → M) (laws : IsPla
   wakes m w i e = let known = word-known m (below w 4) i e in rw (known, known) refl
 
   -- the saved instruction pointer stays where a byte comes in above it
-  word-kept : (m : List ℕ) (p w i byte : ℕ) {n : ℕ} → HasRoom m p n → below w 4 + 4 ≤ p → 0 < n → load m (below w 4) ≡ Ok i → load (put m p (byte ∷ [])) (below w 4) ≡ Ok i
+  word-kept : (m : List ℕ) (p w i byte : ℕ) {n : ℕ} → HasRoom m p n → below w 4 + 4 ≤ p → 0 < n → load m (below w 4) ≡ Ok i
+      → load (put m p (byte ∷ [])) (below w 4) ≡ Ok i
   word-kept m p w i byte room above some e =
-      let low = (fits-reachable (length m) (below w 4) 4 (reachable-allows_word (length m) (below w 4) (allowed-load m (below w 4) i e).0).1).0 in
+      let low = (fits-reachable (length m) (below w 4) 4
+      (reachable-allows_word (length m) (below w 4) (allowed-load m (below w 4) i e).0).1).0 in
       load-put_below m p (byte ∷ []) (below w 4) (record { low = omega arith; high = omega arith }) (omega arith) above ∙ e
 
   -- ---- inputs
 
-  take-one : (k : ℕ) (m : List ℕ) (p left w byte : ℕ) → k < 4 → left == 1 ≡ false → reachable (length m) p 1 ≡ true → NodeDoes access k (Takes byte) (inputting k (engine p left w) (asleep space m)) (inputting k (engine (wrap (p + 1)) (left - 1) w) (asleep space (put m p (byte ∷ []))))
+  take-one : (k : ℕ) (m : List ℕ) (p left w byte : ℕ) → k < 4 → left == 1 ≡ false → reachable (length m) p 1 ≡ true
+      → NodeDoes access k (Takes byte) (inputting k (engine p left w) (asleep space m))
+      (inputting k (engine (wrap (p + 1)) (left - 1) w) (asleep space (put m p (byte ∷ []))))
   unfolding taken
   take-one k m p left w byte link more_left reach =
-      let e = engine p left w in
-      (only-open e k link, rw (engine-open (Some e) k link, more_left, laws.set_byte m p byte reach, set-open (Some e) (Some (engine (wrap (p + 1)) (left - 1) w)) k link) refl)
+      let e = engine p left w in (
+        only-open e k link,
+        rw (
+          engine-open (Some e) k link,
+          more_left,
+          laws.set_byte m p byte reach,
+          set-open (Some e)
+              (Some (engine (wrap (p + 1)) (left - 1) w)) k link,
+        ) refl,
+      )
 
-  take-last : (k : ℕ) (m : List ℕ) (p w byte : ℕ) → k < 4 → reachable (length m) p 1 ≡ true → NodeDoes access k (Takes byte) (inputting k (engine p 1 w) (asleep space m)) (running (woken access w (asleep space (put m p (byte ∷ [])))))
+  take-last : (k : ℕ) (m : List ℕ) (p w byte : ℕ) → k < 4 → reachable (length m) p 1 ≡ true
+      → NodeDoes access k (Takes byte) (inputting k (engine p 1 w) (asleep space m))
+      (running (woken access w (asleep space (put m p (byte ∷ [])))))
   unfolding taken
   take-last k m p w byte link reach =
-      let e = engine p 1 w in
-      (only-open e k link, rw (engine-open (Some e) k link, laws.set_byte m p byte reach, set-open (Some e) None k link, set-closed k link) refl)
+      let e = engine p 1 w in (
+        only-open e k link,
+        rw (
+          engine-open (Some e) k link,
+          laws.set_byte m p byte reach,
+          set-open (Some e) None k link,
+          set-closed k
+              link,
+        ) refl,
+      )
 
-  pub input-takes : (Q : List ℕ → Type 0) (k : ℕ) (m : List ℕ) (p n w i : ℕ) (bytes : List ℕ) → k < 4 → n ≡ length bytes → 0 < n → HasRoom m p n → below w 4 + 4 ≤ p → load m (below w 4) ≡ Ok i → Kept Q p (p + n) → Q m → Leads access space Q k (takes bytes) (inputting k (engine p n w) (asleep space m)) (running (resumes space i w (put m p bytes)))
+  pub input-takes : (Q : List ℕ → Type 0) (k : ℕ) (m : List ℕ) (p n w i : ℕ) (bytes : List ℕ) → k < 4 → n ≡ length bytes → 0 < n
+      → HasRoom m p n → below w 4 + 4 ≤ p → load m (below w 4) ≡ Ok i → Kept Q p (p + n) → Q m
+      → Leads access space Q k (takes bytes) (inputting k (engine p n w) (asleep space m)) (running (resumes space i w (put m p bytes)))
   input-takes Q k m p n w i [] link size some room above e keeps q = absurd (omega arith)
   input-takes Q k m p n w i (byte ∷ []) link size some room above e keeps q =
       let is_one : n ≡ 1 = omega arith in
       let m1 : List ℕ = put m p (byte ∷ []) in
-      let last = subst (λ s. NodeDoes access k (Takes byte) (inputting k (engine p 1 w) (asleep space m)) (running s)) (wakes m1 w i (word-kept m p w i byte room above (omega arith) e)) (take-last k m p w byte link (room-first m p n room (omega arith))) in
+      let last = subst (λ s. NodeDoes access k (Takes byte) (inputting k (engine p 1 w) (asleep space m)) (running s))
+      (wakes m1 w i (word-kept m p w i byte room above (omega arith) e))
+      (take-last k m p w byte link (room-first m p n room (omega arith))) in
       rw is_one (more last (record { memory = m1; is = refl; fact = keeps m p (byte ∷ []) (omega arith) (omega arith) q }) done)
   input-takes Q k m p n w i (byte ∷ (next ∷ bytes)) link size some room above e keeps q =
       let m1 : List ℕ = put m p (byte ∷ []) in
       let room_one : HasRoom m p (length (byte ∷ [])) = record { low = room.low; high = omega arith; small = room.small } in
-      let rest_room : HasRoom m1 (p + 1) (n - 1) = room-put m p (byte ∷ []) (p + 1) (n - 1) room_one (record { low = omega arith; high = omega arith; small = room.small }) in
+      let rest_room : HasRoom m1 (p + 1) (n - 1) =
+      room-put m p (byte ∷ []) (p + 1) (n - 1) room_one (record { low = omega arith; high = omega arith; small = room.small }) in
       let q1 : Q m1 = keeps m p (byte ∷ []) (omega arith) (omega arith) q in
-      let keeps_rest : Kept Q (p + 1) (p + 1 + (n - 1)) = λ m2 a written low high held. keeps m2 a written (omega arith) (omega arith) held in
-      let rest = input-takes Q k m1 (p + 1) (n - 1) w i (next ∷ bytes) link (omega arith) (omega arith) rest_room (omega arith) (word-kept m p w i byte room above (omega arith) e) keeps_rest q1 in
+      let keeps_rest : Kept Q (p + 1) (p + 1 + (n - 1)) =
+      λ m2 a written low high held. keeps m2 a written (omega arith) (omega arith) held in
+      let rest = input-takes Q k m1 (p + 1) (n - 1) w i (next ∷ bytes) link (omega arith) (omega arith) rest_room (omega arith)
+      (word-kept m p w i byte room above (omega arith) e) keeps_rest q1 in
       let joined = put-append m p (byte ∷ []) (next ∷ bytes) (record { low = omega arith; high = omega arith }) in
       let at : wrap (p + 1) ≡ p + 1 = omega arith in
       let first = take-one k m p n w byte link (grind (arith, nat_tests)) (room-first m p n room (omega arith)) in
       more (rw at at first) (record { memory = m1; is = refl; fact = q1 }) (rw joined at rest)
 
   -- the input begins
-  pub opens-input : (k : ℕ) (m : List ℕ) (p n i w : ℕ) → k < 4 → 0 < n → HasRoom m p n → allows_word (length m) (below w 4) ≡ true → nat_lt i load_base ≡ true → access.byte (space m) i ≡ Ok 0xF7 → NodeDoes access k Step (running (awake space (Word n) (Word (in_channel_of k)) (Word p) 0 i w m)) (inputting k (engine p n w) (asleep space (put m (below w 4) (to_le_bytes w32 (wrap (i + 1))))))
+  pub opens-input : (k : ℕ) (m : List ℕ) (p n i w : ℕ) → k < 4 → 0 < n → HasRoom m p n → allows_word (length m) (below w 4) ≡ true
+      → nat_lt i load_base ≡ true → access.byte (space m) i ≡ Ok 0xF7
+      → NodeDoes access k Step (running (awake space (Word n) (Word (in_channel_of k)) (Word p) 0 i w m))
+      (inputting k (engine p n w) (asleep space (put m (below w 4) (to_le_bytes w32 (wrap (i + 1))))))
   unfolding execute_byte operation_with block_refusal storable stored next_refusal next
   opens-input k m p n i w link some room word low fetched =
       let is_some : n == 0 ≡ false = grind (arith, nat_tests) in
       let aligned : (below w 4 % 4 == 0) ≡ true = grind (arith, nat_tests) in
       let may_save : access.block (space m) (below w 4) 4 ≡ Ok tt = laws.block m (below w 4) 4 (grind (arith, nat_tests)) in
       byte-steps access k (awake space (Word n) (Word (in_channel_of k)) (Word p) 0 i w m) 0xF7
-      (record { state = asleep space (put m (below w 4) (to_le_bytes w32 (wrap (i + 1)))); outcome = OpensIn (record { link = k; pointer = p; count = n; process = w }) }) low fetched
-      (λ slice clock. rw (input_channel k link, is_some, input_closed k link, laws.block m p n (room-block m p n room), aligned, may_save, laws.set_word m (below w 4) (wrap (i + 1)) word) refl)
+      (record {
+        state = asleep space (put m (below w 4) (to_le_bytes w32 (wrap (i + 1))));
+        outcome = OpensIn (record { link = k; pointer = p; count = n; process = w });
+      }) low fetched
+      (λ slice clock. rw (
+        input_channel k link,
+        is_some,
+        input_closed k link,
+        laws.block m p n (room-block m p n room),
+        aligned,
+        may_save,
+        laws.set_word m (below w 4) (wrap (i + 1)) word,
+      ) refl)
 
   -- ---- outputs
 
-  send-one : (k l : ℕ) (m : List ℕ) (p left w byte : ℕ) → l < 4 → nat_lt 0 left ≡ true → access.byte (space m) p ≡ Ok byte → NodeDoes access k (Sends l byte) (outputting l (engine p left w) (asleep space m)) (outputting l (engine_waits (wrap (p + 1)) (left - 1) w) (asleep space m))
+  send-one : (k l : ℕ) (m : List ℕ) (p left w byte : ℕ) → l < 4 → nat_lt 0 left ≡ true → access.byte (space m) p ≡ Ok byte
+      → NodeDoes access k (Sends l byte) (outputting l (engine p left w) (asleep space m))
+      (outputting l (engine_waits (wrap (p + 1)) (left - 1) w) (asleep space m))
   unfolding offers marked_sent
   send-one k l m p left w byte link some reads =
-      let e = engine p left w in
-      (link, only-open e l link, rw (engine-open (Some e) l link, some, reads) refl, rw (engine-open (Some e) l link, set-open (Some e) (Some (engine_waits (wrap (p + 1)) (left - 1) w)) l link) refl)
+      let e = engine p left w in (
+        link,
+        only-open e l link,
+        rw (engine-open (Some e) l link, some, reads) refl,
+        rw (engine-open (Some e) l link, set-open (Some e) (Some (engine_waits (wrap (p + 1)) (left - 1) w)) l link) refl,
+      )
 
-  ack-one : (k l : ℕ) (m : List ℕ) (p left w : ℕ) → l < 4 → left == 0 ≡ false → NodeDoes access k (Acks l) (outputting l (engine_waits p left w) (asleep space m)) (outputting l (engine p left w) (asleep space m))
+  ack-one : (k l : ℕ) (m : List ℕ) (p left w : ℕ) → l < 4 → left == 0 ≡ false
+      → NodeDoes access k (Acks l) (outputting l (engine_waits p left w) (asleep space m))
+      (outputting l (engine p left w) (asleep space m))
   unfolding acknowledged
   ack-one k l m p left w link more_left =
-      let e = engine_waits p left w in
-      (link, only-open e l link, rw (engine-open (Some e) l link) refl, rw (engine-open (Some e) l link, more_left, set-open (Some e) (Some (engine p left w)) l link) refl)
+      let e = engine_waits p left w in (
+        link,
+        only-open e l link,
+        rw (engine-open (Some e) l link) refl,
+        rw (engine-open (Some e) l link, more_left, set-open (Some e) (Some (engine p left w)) l link) refl,
+      )
 
-  ack-last : (k l : ℕ) (m : List ℕ) (p w : ℕ) → l < 4 → NodeDoes access k (Acks l) (outputting l (engine_waits p 0 w) (asleep space m)) (running (woken access w (asleep space m)))
+  ack-last : (k l : ℕ) (m : List ℕ) (p w : ℕ) → l < 4
+      → NodeDoes access k (Acks l) (outputting l (engine_waits p 0 w) (asleep space m)) (running (woken access w (asleep space m)))
   unfolding acknowledged
   ack-last k l m p w link =
-      let e = engine_waits p 0 w in
-      (link, only-open e l link, rw (engine-open (Some e) l link) refl, rw (engine-open (Some e) l link, set-open (Some e) None l link, set-closed l link) refl)
+      let e = engine_waits p 0 w in (
+        link,
+        only-open e l link,
+        rw (engine-open (Some e) l link) refl,
+        rw (engine-open (Some e) l link, set-open (Some e) None l link, set-closed l link) refl,
+      )
 
-  pub output-sends : (Q : List ℕ → Type 0) (k l : ℕ) (m : List ℕ) (p n w i : ℕ) (bytes : List ℕ) → l < 4 → n ≡ length bytes → 0 < n → p + n < 2 ^ 32 → Code access (space m) p bytes → load m (below w 4) ≡ Ok i → Q m → Leads access space Q k (sends l bytes) (outputting l (engine p n w) (asleep space m)) (running (resumes space i w m))
+  pub output-sends : (Q : List ℕ → Type 0) (k l : ℕ) (m : List ℕ) (p n w i : ℕ) (bytes : List ℕ) → l < 4 → n ≡ length bytes → 0 < n
+      → p + n < 2 ^ 32 → Code access (space m) p bytes → load m (below w 4) ≡ Ok i → Q m
+      → Leads access space Q k (sends l bytes) (outputting l (engine p n w) (asleep space m)) (running (resumes space i w m))
   output-sends Q k l m p n w i [] link size some small reads e q = absurd (omega arith)
   output-sends Q k l m p n w i (byte ∷ []) link size some small reads e q =
       let is_one : n ≡ 1 = omega arith in
       let first : access.byte (space m) p ≡ Ok byte = rw add-zero at (reads 0 (omega arith)) in
-      rw is_one (more (send-one k l m p 1 w byte link refl first) (record { memory = m; is = refl; fact = q }) (more (subst (λ s. NodeDoes access k (Acks l) (outputting l (engine_waits (wrap (p + 1)) 0 w) (asleep space m)) (running s)) (wakes m w i e) (ack-last k l m (wrap (p + 1)) w link)) (record { memory = m; is = refl; fact = q }) done))
+      rw is_one (more (send-one k l m p 1 w byte link refl first) (record { memory = m; is = refl; fact = q })
+      (more (subst (λ s. NodeDoes access k (Acks l) (outputting l (engine_waits (wrap (p + 1)) 0 w) (asleep space m)) (running s))
+      (wakes m w i e) (ack-last k l m (wrap (p + 1)) w link)) (record { memory = m; is = refl; fact = q }) done))
   output-sends Q k l m p n w i (byte ∷ (next ∷ bytes)) link size some small reads e q =
       let first : access.byte (space m) p ≡ Ok byte = rw add-zero at (reads 0 (omega arith)) in
-      let behind : Code access (space m) (p + 1) (next ∷ bytes) = λ j h. let same : p + 1 + j ≡ p + suc j = omega arith in rw same (reads (suc j) (omega arith)) in
+      let behind : Code access (space m) (p + 1) (next ∷ bytes) = λ j h. let same : p + 1 + j ≡ p + suc j =
+      omega arith in rw same (reads (suc j) (omega arith)) in
       let at : wrap (p + 1) ≡ p + 1 = omega arith in
       let rest = output-sends Q k l m (p + 1) (n - 1) w i (next ∷ bytes) link (omega arith) (omega arith) (omega arith) behind e q in
-      more (rw at at (send-one k l m p n w byte link (grind (arith, nat_tests)) first)) (record { memory = m; is = refl; fact = q }) (more (ack-one k l m (p + 1) (n - 1) w link (grind (arith, nat_tests))) (record { memory = m; is = refl; fact = q }) rest)
+      more (rw at at (send-one k l m p n w byte link (grind (arith, nat_tests)) first)) (record { memory = m; is = refl; fact = q })
+      (more (ack-one k l m (p + 1) (n - 1) w link (grind (arith, nat_tests))) (record { memory = m; is = refl; fact = q }) rest)
 
-  pub opens-output : (k l : ℕ) (m : List ℕ) (p n i w : ℕ) → l < 4 → 0 < n → HasRoom m p n → allows_word (length m) (below w 4) ≡ true → nat_lt i load_base ≡ true → access.byte (space m) i ≡ Ok 0xFB → NodeDoes access k Step (running (awake space (Word n) (Word (out_channel_of l)) (Word p) 0 i w m)) (outputting l (engine p n w) (asleep space (put m (below w 4) (to_le_bytes w32 (wrap (i + 1))))))
+  pub opens-output : (k l : ℕ) (m : List ℕ) (p n i w : ℕ) → l < 4 → 0 < n → HasRoom m p n → allows_word (length m) (below w 4) ≡ true
+      → nat_lt i load_base ≡ true → access.byte (space m) i ≡ Ok 0xFB
+      → NodeDoes access k Step (running (awake space (Word n) (Word (out_channel_of l)) (Word p) 0 i w m))
+      (outputting l (engine p n w) (asleep space (put m (below w 4) (to_le_bytes w32 (wrap (i + 1))))))
   unfolding execute_byte operation_with source_refusal storable stored next_refusal next
   opens-output k l m p n i w link some room word low fetched =
       let is_some : n == 0 ≡ false = grind (arith, nat_tests) in
       let aligned : (below w 4 % 4 == 0) ≡ true = grind (arith, nat_tests) in
       let may_save : access.block (space m) (below w 4) 4 ≡ Ok tt = laws.block m (below w 4) 4 (grind (arith, nat_tests)) in
       byte-steps access k (awake space (Word n) (Word (out_channel_of l)) (Word p) 0 i w m) 0xFB
-      (record { state = asleep space (put m (below w 4) (to_le_bytes w32 (wrap (i + 1)))); outcome = OpensOut (record { link = l; pointer = p; count = n; process = w }) }) low fetched
-      (λ slice clock. rw (output_channel l link, is_some, output_closed l link, laws.source m p n (room-block m p n room), aligned, may_save, laws.set_word m (below w 4) (wrap (i + 1)) word) refl)
+      (record {
+        state = asleep space (put m (below w 4) (to_le_bytes w32 (wrap (i + 1))));
+        outcome = OpensOut (record { link = l; pointer = p; count = n; process = w });
+      }) low fetched
+      (λ slice clock. rw (
+        output_channel l link,
+        is_some,
+        output_closed l link,
+        laws.source m p n (room-block m p n room),
+        aligned,
+        may_save,
+        laws.set_word m (below w 4) (wrap (i + 1)) word,
+      ) refl)

@@ -1,17 +1,18 @@
 -- A plain image is one that a processor of its memory can be loaded with.
-use Rattle.std.proofs.Common.{◌≡◌, ◌⊎◌, inl, inr, ℕ, ◌+◌, ◌<◌, ◌≤◌, List, [], ◌∷◌, length, All, arith}
+use Rattle.std.proofs.Common.{inl, inr, ℕ, ◌+◌, ◌<◌, ◌≤◌, List, [], ◌∷◌, length, arith}
 use Rattle.std.specs.List.{AllByRecursion}
 use Rattle.std.proofs.lemmas.List.Elements.{recursion_from_All}
 use Rattle.tn_stream.specs.Images.{SegmentBytes, ImageBytes}
 use Rattle.tn_stream.specs.PlainImages.{LiesIn as LiesInMemory, AreApart as AreTwoApart, AreAllApart, IsPlain}
-use Rattle.tn_load.specs.Inner.Lives.{LiesIn, LieIn, Fits}
+use Rattle.tn_load.specs.Inner.Lives.{LieIn, Fits}
 use Rattle.tn_load.proofs.Segments.{IsOutside, AreApart}
 
 lie-in : (size : ℕ) (segments : List SegmentBytes) → AllByRecursion (LiesInMemory size) segments → LieIn size segments
 lie-in size [] all = tt
 lie-in size (s ∷ rest) all = (record { some = all.0.some; low = all.0.low; high = all.0.high }, lie-in size rest all.1)
 
-outside : (s : SegmentBytes) (rest : List SegmentBytes) (x : ℕ) → s.base ≤ x → x < s.base + length s.bytes → AllByRecursion (AreTwoApart s) rest
+outside : (s : SegmentBytes) (rest : List SegmentBytes) (x : ℕ) → s.base ≤ x → x < s.base + length s.bytes
+    → AllByRecursion (AreTwoApart s) rest
     → IsOutside x rest
 outside s [] x low high all = tt
 outside s (t ∷ rest) x low high all = (

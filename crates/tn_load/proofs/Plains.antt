@@ -20,13 +20,18 @@ plain_is_plain =
     }
 
 -- a space that holds a memory, and allows each block that the memory allows
-pub holds_is_plain : {M : Type 0} (access : Access M) (laws : IsSpace access) (memory : M → List ℕ) (over : M → List ℕ → M) → HoldsMemory access memory over → ((s : M) (a n : ℕ) → test_block (memory s) a n ≡ Ok tt → access.block s a n ≡ Ok tt) → (s : M) → IsPlainSpace access (over s)
+pub holds_is_plain : {M : Type 0} (access : Access M) (laws : IsSpace access) (memory : M → List ℕ) (over : M → List ℕ → M)
+    → HoldsMemory access memory over → ((s : M) (a n : ℕ) → test_block (memory s) a n ≡ Ok tt → access.block s a n ≡ Ok tt) → (s : M)
+    → IsPlainSpace access (over s)
 holds_is_plain access laws memory over holds all s =
     record {
       byte = λ m a h. holds.byte (over s m) a (allows m a 1 (grind (arith, nat_tests))) ∙ ap (λ n. fetch n a) (holds.memory_of s m);
-      set_byte = λ m a v h. holds.set_byte (over s m) a v (allows m a 1 (grind (arith, nat_tests))) ∙ rw (holds.memory_of s m, holds.over_twice s m (put m a (v ∷ []))) refl;
-      word = λ m a h. holds.word (over s m) a (reachable-allows_word (length m) a h).0 (allows m a 4 (word m a h)) ∙ ap (λ n. load n a) (holds.memory_of s m);
-      set_word = λ m a v h. holds.set_word (over s m) a v (reachable-allows_word (length m) a h).0 (allows m a 4 (word m a h)) ∙ rw (holds.memory_of s m, holds.over_twice s m _) refl;
+      set_byte = λ m a v h. holds.set_byte (over s m) a v (allows m a 1 (grind (arith, nat_tests)))
+          ∙ rw (holds.memory_of s m, holds.over_twice s m (put m a (v ∷ []))) refl;
+      word = λ m a h. holds.word (over s m) a (reachable-allows_word (length m) a h).0 (allows m a 4 (word m a h))
+          ∙ ap (λ n. load n a) (holds.memory_of s m);
+      set_word = λ m a v h. holds.set_word (over s m) a v (reachable-allows_word (length m) a h).0 (allows m a 4 (word m a h))
+          ∙ rw (holds.memory_of s m, holds.over_twice s m _) refl;
       block = allows;
       source = λ m a n h. laws.source_of_block (over s m) a n (allows m a n h);
     }

@@ -26,7 +26,8 @@ Stand (s ∷ rest) m = ((i : ℕ) → i < length s.bytes → byte_at m (s.base +
 inside-lies : (m : List ℕ) (size : ℕ) (s : SegmentBytes) → length m ≡ size → LiesIn size s → IsInside m s.base (length s.bytes)
 inside-lies m size s is lies = record { low = omega (arith, lies.low); high = omega (arith, lies.high) }
 
-pub with_segments-outside : (segments : List SegmentBytes) (m : List ℕ) (size x : ℕ) → length m ≡ size → LieIn size segments → most_neg ≤ x → IsOutside x segments → byte_at (with_segments segments m) x ≡ byte_at m x
+pub with_segments-outside : (segments : List SegmentBytes) (m : List ℕ) (size x : ℕ) → length m ≡ size → LieIn size segments
+    → most_neg ≤ x → IsOutside x segments → byte_at (with_segments segments m) x ≡ byte_at m x
 unfolding with_segments
 with_segments-outside [] m size x is lies low out = refl
 with_segments-outside (s ∷ rest) m size x is lies low out =
@@ -37,29 +38,35 @@ with_segments-outside (s ∷ rest) m size x is lies low out =
       | inr above ↦ byte_at-put_above m s.base s.bytes x inside above
     ]
 
-pub with_segments-stand : (segments : List SegmentBytes) (m : List ℕ) (size : ℕ) → length m ≡ size → LieIn size segments → AreApart segments → Stand segments (with_segments segments m)
+pub with_segments-stand : (segments : List SegmentBytes) (m : List ℕ) (size : ℕ) → length m ≡ size → LieIn size segments
+    → AreApart segments → Stand segments (with_segments segments m)
 unfolding with_segments
 with_segments-stand [] m size is lies apart = tt
 with_segments-stand (s ∷ rest) m size is lies apart =
     let inside : IsInside m s.base (length s.bytes) = inside-lies m size s is lies.0 in
     let same : length (put m s.base s.bytes) ≡ size = length-put m s.base s.bytes inside ∙ is in
     let low_base : load_base ≤ s.base = lies.0.low in (
-      λ i below. with_segments-outside rest (put m s.base s.bytes) size (s.base + i) same lies.1 (omega arith) (apart.0 (s.base + i) (omega arith) (omega arith)) ∙ byte_at-put_inside m s.base s.bytes i inside below,
+      λ i below. with_segments-outside rest (put m s.base s.bytes) size (s.base + i) same lies.1 (omega arith)
+          (apart.0 (s.base + i) (omega arith) (omega arith)) ∙ byte_at-put_inside m s.base s.bytes i inside below,
       with_segments-stand rest (put m s.base s.bytes) size same lies.1 apart.1,
     )
 
-stand-changed : (segments : List SegmentBytes) (m n : List ℕ) (size : ℕ) → LieIn size segments → Changed m n 0x80000024 0x80000400 → Stand segments m → Stand segments n
+stand-changed : (segments : List SegmentBytes) (m n : List ℕ) (size : ℕ) → LieIn size segments → Changed m n 0x80000024 0x80000400
+    → Stand segments m → Stand segments n
 stand-changed [] m n size lies c stand = tt
 stand-changed (s ∷ rest) m n size lies c stand =
     let low_base : load_base ≤ s.base = lies.0.low in
     (λ i below. c.above (s.base + i) (omega arith) (omega arith) ∙ stand.0 i below, stand-changed rest m n size lies.1 c stand.1)
 
 -- the segments of a whole image stand in memory
-pub whole-stands : (image : ImageBytes) (m n : List ℕ) → LieIn (length m) image.segments → AreApart image.segments → Whole image m n → Stand image.segments n
+pub whole-stands : (image : ImageBytes) (m n : List ℕ) → LieIn (length m) image.segments → AreApart image.segments → Whole image m n
+    → Stand image.segments n
 whole-stands image m n lies apart whole =
-    stand-changed image.segments (with_segments image.segments m) n (length m) lies whole (with_segments-stand image.segments m (length m) refl lies apart)
+    stand-changed image.segments (with_segments image.segments m) n (length m) lies whole
+    (with_segments-stand image.segments m (length m) refl lies apart)
 
 -- and all else from LOAD_BASE on is as it was
-pub whole-rest : (image : ImageBytes) (m n : List ℕ) (x : ℕ) → LieIn (length m) image.segments → Whole image m n → load_base ≤ x → IsOutside x image.segments → byte_at n x ≡ byte_at m x
+pub whole-rest : (image : ImageBytes) (m n : List ℕ) (x : ℕ) → LieIn (length m) image.segments → Whole image m n → load_base ≤ x
+    → IsOutside x image.segments → byte_at n x ≡ byte_at m x
 whole-rest image m n x lies whole low out =
     whole.above x (omega arith) low ∙ with_segments-outside image.segments m (length m) x refl lies (omega arith) out

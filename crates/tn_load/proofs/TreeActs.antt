@@ -1,5 +1,5 @@
 -- What the processors of a load tree take and send: each what its parent sends to it, and the root the stream.
-use Rattle.std.proofs.Common.{◌≡◌, ◌≢◌, ◌⊎◌, inl, inr, ℕ, zero, suc, ◌<◌, ◌≤◌, Bool, true, false, cond, List, [], ◌∷◌, ◌++◌, length, map}
+use Rattle.std.proofs.Common.{◌≡◌, ◌≢◌, ◌⊎◌, inl, inr, ℕ, zero, suc, ◌<◌, Bool, true, false, cond, List, [], ◌∷◌, ◌++◌, length, map}
 use Rattle.std.proofs.Common.{Option, Some, None, refl, sym, ap, ◌∙◌, subst, arith}
 use Rattle.std.specs.Prelude.{nat_eq, nat_lt}
 use Rattle.std.proofs.lemmas.Bool.Decides.{nat_tests}
@@ -9,7 +9,7 @@ use Rattle.tn_stream.specs.Images.{ImageBytes}
 use Rattle.tn_stream.specs.Branches.{Children, Branch}
 use Rattle.tn_stream.specs.Branches.Children.{none, child}
 use Rattle.tn_stream.specs.Streams.{Site, stream}
-use Rattle.tn_stream.specs.LoadBranches.{hung, site_of, branch_at, whole_branch}
+use Rattle.tn_stream.specs.LoadBranches.{hung, branch_at, whole_branch}
 use Rattle.tn_stream.proofs.LoadBranchLaws.{linked, branch-is}
 use Rattle.tn_load.specs.LoneRuns.{takes_of, sends_of}
 use Rattle.tn_load.specs.Inner.Lives.{part, part_at, acts_at}
@@ -28,7 +28,8 @@ unfolding with_child
 free-more none l m at its free other = (other, tt)
 free-more (child x here below others) l m at its free other = (free.0, free-more others l m at its free.1 other)
 
-apart-more : {A : Type 0} (cs : Children A) (m : ℕ) (at : A) (its : Children A) → AreApart cs → IsFree m cs → AreApart (with_child cs m at its)
+apart-more : {A : Type 0} (cs : Children A) (m : ℕ) (at : A) (its : Children A) → AreApart cs → IsFree m cs
+    → AreApart (with_child cs m at its)
 unfolding with_child
 apart-more none m at its apart free = (tt, tt)
 apart-more (child x here below others) m at its apart free =
@@ -79,7 +80,8 @@ module _ (parent_at : ℕ → Option ℕ) (entry : ℕ → ℕ × Branch Site) (
   abbrev Rise : ℕ → Type 0
   Rise n = (i j : ℕ) → i < j → j < n → parent_at i ≡ Some k → parent_at j ≡ Some k → (entry i).0 < (entry j).0
 
-  hung-last : (xs : List ℕ) (c : ℕ) → hung (map entry (xs ++ c ∷ [])) ≡ with_child (hung (map entry xs)) (entry c).0 (entry c).1.root (entry c).1.below
+  hung-last : (xs : List ℕ) (c : ℕ) → hung (map entry (xs ++ c ∷ [])) ≡ with_child (hung (map entry xs)) (entry c).0 (entry c).1.root
+      (entry c).1.below
   hung-last xs c = ap hung (map-more entry xs c) ∙ hung-more (map entry xs) (entry c)
 
   hang-none : Hang zero
@@ -94,7 +96,8 @@ module _ (parent_at : ℕ → Option ℕ) (entry : ℕ → ℕ × Branch Site) (
         apart = subst AreApart e h.apart;
         free = λ l no_child. subst (IsFree l) e (h.free l (λ d inside is. no_child d (omega arith) is));
         child =
-            λ d inside is. subst (IsChild (entry d).0 (entry d).1.root (entry d).1.below) e (h.child d (earlier d inside is (nat_lt d c) refl) is);
+            λ d inside is. subst (IsChild (entry d).0 (entry d).1.root (entry d).1.below) e
+            (h.child d (earlier d inside is (nat_lt d c) refl) is);
       }
     where
       go : (test : Bool) → is_parent (parent_at c) k ≡ test
@@ -122,7 +125,8 @@ module _ (parent_at : ℕ → Option ℕ) (entry : ℕ → ℕ × Branch Site) (
             λ l no_child. subst (IsFree l) e
             (free-more (hanging c) l (entry c).0 (entry c).1.root (entry c).1.below (h.free l (λ d inside is. no_child d (omega arith) is))
             (no_child c (omega arith) its));
-        child = λ d inside is. subst (IsChild (entry d).0 (entry d).1.root (entry d).1.below) e (one d inside is free_link (nat_lt d c) refl);
+        child = λ d inside is. subst (IsChild (entry d).0 (entry d).1.root (entry d).1.below) e
+            (one d inside is free_link (nat_lt d c) refl);
       }
     where
       one : (d : ℕ) → d < suc c → parent_at d ≡ Some k → IsFree (entry c).0 (hanging c) → (test : Bool) → nat_lt d c ≡ test
@@ -177,7 +181,8 @@ child-or-none nodes p l (suc n) = elim (child-or-none nodes p l n) [
         last c inside is true u = free c (grind (arith, nat_tests)) is
         last c inside is false u =
             let same : c ≡ n = grind (arith, nat_tests) in
-            λ at. let here : (node_at nodes n).parent_link ≡ l = ap (λ x. (node_at nodes x).parent_link) (sym same) ∙ at in grind (arith, nat_tests)
+            λ at. let here : (node_at nodes n).parent_link ≡ l =
+            ap (λ x. (node_at nodes x).parent_link) (sym same) ∙ at in grind (arith, nat_tests)
 
 module _ (images : List ImageBytes) (nodes : List LoadNode) (count : ℕ) (whole : IsWholeTree nodes count) where
   -- how the children of a place hang below it
@@ -199,7 +204,8 @@ module _ (images : List ImageBytes) (nodes : List LoadNode) (count : ℕ) (whole
       let e = below-is p within in
       let at : IsChild (node_at nodes k).parent_link (branch_at images nodes k).root (branch_at images nodes k).below
       (branch_at images nodes p).below =
-      subst (IsChild (node_at nodes k).parent_link (branch_at images nodes k).root (branch_at images nodes k).below) (sym e) (h.child k inside is) in
+      subst (IsChild (node_at nodes k).parent_link (branch_at images nodes k).root (branch_at images nodes k).below) (sym e)
+      (h.child k inside is) in
       child-fits (branch_at images nodes p).root (branch_at images nodes p).below (node_at nodes k).parent_link
       (branch_at images nodes k).root (branch_at images nodes k).below at (subst AreApart (sym e) h.apart)
 
@@ -212,7 +218,8 @@ module _ (images : List ImageBytes) (nodes : List LoadNode) (count : ℕ) (whole
       let e = below-is p within in
       let at : IsChild (node_at nodes k).parent_link (branch_at images nodes k).root (branch_at images nodes k).below
       (branch_at images nodes p).below =
-      subst (IsChild (node_at nodes k).parent_link (branch_at images nodes k).root (branch_at images nodes k).below) (sym e) (h.child k inside is) in
+      subst (IsChild (node_at nodes k).parent_link (branch_at images nodes k).root (branch_at images nodes k).below) (sym e)
+      (h.child k inside is) in
       part_at-child front back (node_at nodes k).parent_link (branch_at images nodes k).root (branch_at images nodes k).below
       (branch_at images nodes p).below at (subst AreApart (sym e) h.apart)
 

@@ -1,19 +1,18 @@
 -- The places of the processors of a load tree, the links that they boot by, and what hangs at each of their links.
-use Rattle.std.proofs.Common.{◌≡◌, ◌≢◌, ◌⊎◌, inl, inr, ℕ, zero, suc, ◌+◌, ◌==◌, ◌<◌, ◌≤◌, Bool, true, false, List, [], ◌∷◌, length}
-use Rattle.std.proofs.Common.{Option, Some, None, refl, sym, ap, ◌∙◌, subst, arith}
-use Rattle.std.specs.Prelude.{nat_lt, nat_eq, if◌then◌else◌}
+use Rattle.std.proofs.Common.{◌≡◌, ◌≢◌, ◌⊎◌, inl, inr, ℕ, zero, suc, ◌==◌, ◌<◌, Bool, true, false, List, [], ◌∷◌, length}
+use Rattle.std.proofs.Common.{Some, refl, sym, ap, ◌∙◌, subst, arith}
+use Rattle.std.specs.Prelude.{nat_lt, if◌then◌else◌}
 use Rattle.std.proofs.lemmas.Bool.Decides.{nat_tests}
-use Rattle.tn_net.specs.declared.networks.Far.{Far}
-use Rattle.tn_net.specs.declared.networks.Far.TheVariants.{Nothing, Host, Link}
+use Rattle.tn_net.specs.declared.networks.Far.TheVariants.{Link}
 use Rattle.tn_net.specs.Networks.{NetworkState, IsEnd, IsPairing, far_at}
 use Rattle.tn_net.specs.Paths.{IsPath, IsLess, path_at}
-use Rattle.tn_net.specs.Trees.{LoadNode, node_at, IsLoadTree, HangsBelow, PrecedesInDictionary}
+use Rattle.tn_net.specs.Trees.{LoadNode, node_at, IsLoadTree, PrecedesInDictionary}
 use Rattle.tn_net.specs.WholeTrees.{IsWholeTree}
 use Rattle.tn_stream.specs.Images.{ImageBytes}
-use Rattle.tn_load.specs.LoneRuns.{takes_of, sends_of}
+use Rattle.tn_load.specs.LoneRuns.{sends_of}
 use Rattle.tn_load.specs.Inner.Lives.{acts_at}
 use Rattle.tn_load.specs.Inner.Loadings.{place_of}
-use Rattle.tn_load.proofs.TreeActs.{takes-sent, sends-none, child-or-none}
+use Rattle.tn_load.proofs.TreeActs.{sends-none, child-or-none}
 
 -- ---- places
 
@@ -21,7 +20,8 @@ pub record IsPlaceOf (nodes : List LoadNode) (p k : ℕ) : Type 0 where
   pub within : k < length nodes
   pub processor : (node_at nodes k).processor ≡ p
 
-pub place-found : (nodes : List LoadNode) (k p : ℕ) → k < length nodes → (node_at nodes k).processor ≡ p → IsPlaceOf nodes p (place_of nodes p)
+pub place-found : (nodes : List LoadNode) (k p : ℕ) → k < length nodes → (node_at nodes k).processor ≡ p
+    → IsPlaceOf nodes p (place_of nodes p)
 unfolding place_of
 place-found [] k p inside is = absurd (omega arith)
 place-found (node ∷ nodes) k p inside is = go k inside is (node.processor == p) refl (λ j below at. place-found nodes j p below at)
@@ -80,7 +80,8 @@ module _ (network : NetworkState) (nodes : List LoadNode) (pairing : IsPairing n
   first_is : (k : ℕ) → k < length nodes → path_at tree.paths k ≡ [] → k ≡ 0
   first_is zero inside empty = refl
   first_is (suc k) inside empty =
-      absurd (before (path_at tree.paths 0) (subst (λ path. PrecedesInDictionary (path_at tree.paths 0) path) empty (tree.order 0 (suc k) (omega arith) inside)))
+      absurd (before (path_at tree.paths 0) (subst (λ path. PrecedesInDictionary (path_at tree.paths 0) path) empty
+      (tree.order 0 (suc k) (omega arith) inside)))
     where
       before : (path : List ℕ) → PrecedesInDictionary path [] → ⊥
       before [] h = h
@@ -103,8 +104,10 @@ module _ (network : NetworkState) (nodes : List LoadNode) (pairing : IsPairing n
     pub parent : ℕ
     pub within : parent < length nodes
     pub is : (node_at nodes k).parent ≡ Some parent
-    pub far : far_at network (node_at nodes k).processor (node_at nodes k).boot_link ≡ Link (node_at nodes parent).processor (node_at nodes k).parent_link
-    pub there : far_at network (node_at nodes parent).processor (node_at nodes k).parent_link ≡ Link (node_at nodes k).processor (node_at nodes k).boot_link
+    pub far : far_at network (node_at nodes k).processor (node_at nodes k).boot_link ≡ Link (node_at nodes parent).processor
+        (node_at nodes k).parent_link
+    pub there : far_at network (node_at nodes parent).processor (node_at nodes k).parent_link ≡ Link (node_at nodes k).processor
+        (node_at nodes k).boot_link
 
   pub under : (k : ℕ) → 0 < k → k < length nodes → IsUnder k
   under k some inside =
@@ -115,7 +118,8 @@ module _ (network : NetworkState) (nodes : List LoadNode) (pairing : IsPairing n
         parent = below.place;
         within = below.here;
         is = below.parent;
-        far = pairing.ways (node_at nodes below.place).processor (node_at nodes k).parent_link (node_at nodes k).processor (node_at nodes k).boot_link end below.wire;
+        far = pairing.ways (node_at nodes below.place).processor (node_at nodes k).parent_link (node_at nodes k).processor
+            (node_at nodes k).boot_link end below.wire;
         there = below.wire;
       }
 
@@ -160,7 +164,8 @@ module _ (network : NetworkState) (nodes : List LoadNode) (pairing : IsPairing n
 
   -- by a link that leads to no child nothing is sent
   pub silent : (images : List ImageBytes) (k l : ℕ) → k < length nodes
-      → ((c : ℕ) → c < length nodes → far_at network (node_at nodes k).processor l ≢ Link (node_at nodes c).processor (node_at nodes c).boot_link)
+      → ((c : ℕ) → c < length nodes → far_at network (node_at nodes k).processor l ≢ Link (node_at nodes c).processor
+      (node_at nodes c).boot_link)
       → sends_of l (acts_at images nodes k) ≡ []
   silent images k l inside apart = elim (hangs-or-none images k l inside) [
     | inl at ↦ absurd (apart at.child at.within at.far)

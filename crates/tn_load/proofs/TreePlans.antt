@@ -1,7 +1,8 @@
 -- The plan of a whole network: for each processor the course of its lone run, and for the host the stream.
-use Rattle.std.proofs.Common.{◌≡◌, ◌≢◌, ◌⊎◌, inl, inr, ℕ, zero, suc, ◌+◌, ◌*◌, ◌==◌, ◌<◌, ◌≤◌, Bool, true, false, List, [], ◌∷◌, ◌++◌, length, map}
-use Rattle.std.proofs.Common.{Option, Some, None, refl, sym, ap, ◌∙◌, subst, arith}
-use Rattle.std.specs.Prelude.{nat_lt, not, ◌&&◌, if◌then◌else◌, slice_get, slice_index_or, replicate}
+use Rattle.std.proofs.Common.{◌≡◌, ◌≢◌, ℕ, zero, suc, ◌==◌, ◌<◌, ◌≤◌, Bool, true, false, List, []}
+use Rattle.std.proofs.Common.{length}
+use Rattle.std.proofs.Common.{None, refl, sym, ap, ◌∙◌, subst, arith}
+use Rattle.std.specs.Prelude.{nat_lt, not, ◌&&◌}
 use Rattle.std.proofs.lemmas.Bool.Decides.{nat_tests}
 use Rattle.tn_word.specs.Words.{load_base}
 use Rattle.tn_mem.specs.Memories.{plain_access}
@@ -11,32 +12,29 @@ use Rattle.tn_net.specs.Networks.{NetworkState, IsEnd, far_at}
 use Rattle.tn_net.specs.Trees.{LoadNode, node_at}
 use Rattle.tn_stream.specs.Images.{ImageBytes}
 use Rattle.tn_stream.specs.Streams.{stream}
-use Rattle.tn_stream.specs.LoadBranches.{branch_at, whole_branch}
+use Rattle.tn_stream.specs.LoadBranches.{whole_branch}
 use Rattle.tn_node.specs.Nodes.{NodeState}
 use Rattle.tn_node.specs.Links.{offers}
-use Rattle.tn_network.specs.Boards.{BoardState, latch_at}
 use Rattle.tn_network.specs.Holds.{HoldState, entry_of}
 use Rattle.tn_network.specs.Nets.{memory_ops}
-use Rattle.tn_network.specs.Resets.{PowerState, powered_node, reset_board}
+use Rattle.tn_network.specs.Resets.{PowerState, powered_node}
 use Rattle.tn_load.specs.Acts.{Act, Post, HasEnded}
-use Rattle.tn_load.specs.LoneRuns.{Lone, AreAnswered, takes_of, sends_of, is_waiting}
-use Rattle.tn_load.specs.Plans.{Moment, Course, Plan, IsCourse, acts_left, now}
-use Rattle.tn_load.specs.Shares.{IsWireEnd, other_end, taken_by, incoming, outgoing, waiting, latch_of, bytes_in}
-use Rattle.tn_load.specs.UnderWay.{IsUnderWay}
+use Rattle.tn_load.specs.LoneRuns.{Lone, AreAnswered, takes_of, sends_of}
+use Rattle.tn_load.specs.Plans.{Course, Plan, IsCourse, acts_left, now}
+use Rattle.tn_load.specs.Shares.{taken_by}
 use Rattle.tn_load.specs.Inner.Lives.{acts_at}
 use Rattle.tn_load.specs.Boots.{image_at, no_power}
 use Rattle.tn_load.specs.Inner.Loadings.{place_of, IsLoading}
 use Rattle.tn_load.proofs.Plains.{plain_is_plain}
-use Rattle.tn_load.proofs.Bootstraps.{in_reset}
 use Rattle.tn_load.proofs.Primaries.{HasTimers}
 use Rattle.tn_load.proofs.Lives.{Whole, at_entry}
 use Rattle.tn_load.proofs.Lones.{WholeBeforeStart, LoneLife}
 use Rattle.tn_load.proofs.LoneNodes.{StandsLast, lone-run}
 use Rattle.tn_load.proofs.Along.{IsAlong, last_count, last_parts, lone-with, life-along}
-use Rattle.tn_load.proofs.Answered.{settled-life, settled-waits, settled-answered}
+use Rattle.tn_load.proofs.Answered.{settled-life, settled-answered}
 use Rattle.tn_load.proofs.Courses.{moments, acts-moments, first-moments, follow}
 use Rattle.tn_load.proofs.TreeActs.{takes-sent, takes-stream}
-use Rattle.tn_load.proofs.TreePlaces.{IsPlaceOf, placed, place-is, root-place, root-processor, IsUnder, under, silent}
+use Rattle.tn_load.proofs.TreePlaces.{IsPlaceOf, place-is, root-place, root-processor, under, silent}
 use Rattle.tn_load.proofs.Leading.{each_link}
 use Rattle.tn_load.proofs.TreeRuns.{spot, branch, power, spotted, site-is, own-run}
 
@@ -105,7 +103,8 @@ module _ (network : NetworkState) (nodes : List LoadNode) (images : List ImageBy
   boots-is p inside = ap (λ s. s.boot) (site-is network nodes images powers holds h p inside)
 
   boots-low : (p : ℕ) → p < length network.sizes → boots p < 4
-  boots-low p inside = subst (λ k. k < 4) (sym (boots-is p inside)) (h.whole.placed (place p) (spotted network nodes images powers holds h p inside).within).boot_link
+  boots-low p inside = subst (λ k. k < 4) (sym (boots-is p inside))
+      (h.whole.placed (place p) (spotted network nodes images powers holds h p inside).within).boot_link
 
   image-is : (p : ℕ) → p < length network.sizes → (branch network nodes images powers holds h p).root.image ≡ image_at images p
   image-is p inside = ap (λ s. s.image) (site-is network nodes images powers holds h p inside)
@@ -122,8 +121,10 @@ module _ (network : NetworkState) (nodes : List LoadNode) (images : List ImageBy
   alone_run : (p : ℕ) → p < length network.sizes → (run : OwnRun p)
       → Lone memory_ops (post p) (Facts p) (acts p) (powered_node (power network nodes images powers holds h p)) (end_of p run)
   alone_run p inside run =
-      lone-with memory_ops (post p) (Lasts p) (Alongs p) (acts p) (powered_node (power network nodes images powers holds h p)) (end_of p run)
-      (lone-run plain_access holds p (boots p) (boots-low p inside) (subst (λ e. load_base ≤ e) (sym (h.entries p inside)) (h.above p inside))
+      lone-with memory_ops (post p) (Lasts p) (Alongs p) (acts p) (powered_node (power network nodes images powers holds h p))
+      (end_of p run)
+      (lone-run plain_access holds p (boots p) (boots-low p inside)
+      (subst (λ e. load_base ≤ e) (sym (h.entries p inside)) (h.above p inside))
       (Wholes p) (acts p) (powered_node (power network nodes images powers holds h p)) (end_of p run) run.run)
       (life-along (branch network nodes images powers holds h p).root (branch network nodes images powers holds h p).below)
 
@@ -132,18 +133,22 @@ module _ (network : NetworkState) (nodes : List LoadNode) (images : List ImageBy
       let run : OwnRun p = own-run network nodes images powers holds h p inside in
       record {
         boot = boots p;
-        moments = moments memory_ops (post p) (Facts p) (acts p) (powered_node (power network nodes images powers holds h p)) (end_of p run) (alone_run p inside run);
+        moments = moments memory_ops (post p) (Facts p) (acts p) (powered_node (power network nodes images powers holds h p))
+            (end_of p run) (alone_run p inside run);
         end = end_of p run;
       }
 
-  ended : (p : ℕ) → p < length network.sizes → (m : List ℕ) → HasEnded memory_ops (post p) (at_entry (λ m. m) (branch network nodes images powers holds h p).root.image m)
+  ended : (p : ℕ) → p < length network.sizes → (m : List ℕ)
+      → HasEnded memory_ops (post p) (at_entry (λ m. m) (branch network nodes images powers holds h p).root.image m)
   unfolding offers
   ended p inside m =
       let at : (branch network nodes images powers holds h p).root.image.entry == entry_of holds p ≡ true =
-      ap (λ i. i.entry == entry_of holds p) (image-is p inside) ∙ (ap (λ e. (image_at images p).entry == e) (h.entries p inside) ∙ same (image_at images p).entry) in
+      ap (λ i. i.entry == entry_of holds p) (image-is p inside)
+      ∙ (ap (λ e. (image_at images p).entry == e) (h.entries p inside) ∙ same (image_at images p).entry) in
       record {
         still = stays holds.held ((branch network nodes images powers holds h p).root.image.entry == entry_of holds p) h.held at;
-        offers = each_link (λ l. memory_ops.offers l (at_entry (λ m. m) (branch network nodes images powers holds h p).root.image m) ≡ None) refl refl refl refl;
+        offers = each_link (λ l. memory_ops.offers l (at_entry (λ m. m) (branch network nodes images powers holds h p).root.image m) ≡
+            None) refl refl refl refl;
       }
 
   made-planned : (p : ℕ) (inside : p < length network.sizes) → IsPlanned p (made p inside)
@@ -161,7 +166,8 @@ module _ (network : NetworkState) (nodes : List LoadNode) (images : List ImageBy
           boot = boots-low p inside;
           follow = follow memory_ops (post p) (Facts p) (acts p) first (end_of p run) alone (ended p inside run.after);
           answered = subst AreAnswered (sym acts_known)
-              (settled-answered (settled-life (branch network nodes images powers holds h p).root (branch network nodes images powers holds h p).below));
+              (settled-answered (settled-life (branch network nodes images powers holds h p).root
+              (branch network nodes images powers holds h p).below));
         };
         end = record {
           memory = run.after;
@@ -177,7 +183,8 @@ module _ (network : NetworkState) (nodes : List LoadNode) (images : List ImageBy
   chosen p true t = made p (grind (arith, nat_tests))
   chosen p false t = record { boot = 0; moments = []; end = powered_node no_power }
 
-  chosen-planned : (p : ℕ) → p < length network.sizes → (test : Bool) (t : nat_lt p (length network.sizes) ≡ test) → IsPlanned p (chosen p test t)
+  chosen-planned : (p : ℕ) → p < length network.sizes → (test : Bool) (t : nat_lt p (length network.sizes) ≡ test)
+      → IsPlanned p (chosen p test t)
   unfolding chosen
   chosen-planned p inside true t = made-planned p _
   chosen-planned p inside false t = absurd (grind (arith, nat_tests))
@@ -248,7 +255,8 @@ module _ (network : NetworkState) (nodes : List LoadNode) (images : List ImageBy
       → takes_of (acts p) ≡ from_far (stream (whole_branch images nodes)) (far_at network p (node_at nodes (place p)).boot_link)
   carried_up p inside zero is =
       let at = place-below p inside in
-      let root : p ≡ network.root = sym at.processor ∙ (ap (λ k. (node_at nodes k).processor) is ∙ root-processor network nodes h.pairing h.tree h.whole) in
+      let root : p ≡ network.root = sym at.processor
+      ∙ (ap (λ k. (node_at nodes k).processor) is ∙ root-processor network nodes h.pairing h.tree h.whole) in
       let link : (node_at nodes (place p)).boot_link ≡ network.root_link = ap (λ k. (node_at nodes k).boot_link) is ∙ h.tree.boot in
       let host : far_at network p (node_at nodes (place p)).boot_link ≡ Host =
       ap (λ x. far_at network x (node_at nodes (place p)).boot_link) root
@@ -260,7 +268,8 @@ module _ (network : NetworkState) (nodes : List LoadNode) (images : List ImageBy
       let up = under network nodes h.pairing h.tree h.whole (place p) (omega (arith, is)) at.within in
       let parent : ℕ = up.parent in
       let parent_inside : (node_at nodes parent).processor < length network.sizes = (h.whole.placed parent up.within).processor in
-      let far : far_at network p (node_at nodes (place p)).boot_link ≡ Link (node_at nodes parent).processor (node_at nodes (place p)).parent_link =
+      let far : far_at network p (node_at nodes (place p)).boot_link ≡ Link (node_at nodes parent).processor
+      (node_at nodes (place p)).parent_link =
       ap (λ x. far_at network x (node_at nodes (place p)).boot_link) (sym at.processor) ∙ up.far in
       let there : sent-by (node_at nodes parent).processor (node_at nodes (place p)).parent_link
       ≡ sends_of (node_at nodes (place p)).parent_link (acts_at images nodes parent) =
@@ -278,7 +287,8 @@ module _ (network : NetworkState) (nodes : List LoadNode) (images : List ImageBy
       boot : ℕ
       boot = (node_at nodes (place p)).boot_link
 
-      quiet : (l ≢ (node_at nodes (place p)).boot_link) → (f : Far) → far_at network p l ≡ f → from_far (stream (whole_branch images nodes)) f ≡ []
+      quiet : (l ≢ (node_at nodes (place p)).boot_link) → (f : Far) → far_at network p l ≡ f
+          → from_far (stream (whole_branch images nodes)) f ≡ []
       quiet apart Nothing far = refl
       quiet apart Host far =
           let once = h.pairing.once p l end far in
@@ -307,7 +317,8 @@ module _ (network : NetworkState) (nodes : List LoadNode) (images : List ImageBy
 
   -- the host gets nothing
   pub host-gets : sent-by network.root network.root_link ≡ []
-  host-gets = silent-at network.root network.root_link h.pairing.root.processor (λ c within far. let never = sym h.pairing.hosted ∙ far in cc)
+  host-gets = silent-at network.root network.root_link h.pairing.root.processor
+      (λ c within far. let never = sym h.pairing.hosted ∙ far in cc)
 
   -- and nothing goes where there is no wire
   pub unwired : (p l : ℕ) → IsEnd network p l → far_at network p l ≡ Nothing → sent-by p l ≡ []

@@ -1,7 +1,7 @@
 -- The lone run of each processor of a load tree, from its power-up to its entry.
-use Rattle.std.proofs.Common.{◌≡◌, ℕ, zero, suc, ◌+◌, ◌<◌, ◌≤◌, ◌^◌, Bool, true, false, List, [], ◌∷◌, ◌++◌, length, map, All, get_or}
+use Rattle.std.proofs.Common.{◌≡◌, ℕ, zero, suc, ◌+◌, ◌<◌, ◌≤◌, ◌^◌, List, [], ◌∷◌, ◌++◌, length, map}
 use Rattle.std.proofs.Common.{refl, sym, ap, ◌∙◌, subst, arith, length-append}
-use Rattle.std.specs.Prelude.{slice_index, slice_index_or}
+use Rattle.std.specs.Prelude.{slice_index}
 use Rattle.std.specs.List.{AllByRecursion}
 use Rattle.std.proofs.lemmas.List.Elements.{All-weaker, recursion_from_All}
 use Rattle.tn_mem.specs.Sizes.{IsMemorySize}
@@ -12,16 +12,16 @@ use Rattle.tn_net.specs.WholeTrees.{IsWholeTree}
 use Rattle.tn_stream.specs.declared.waves.Wave.{Wave}
 use Rattle.tn_stream.specs.declared.waves.Wave.TheVariants as wave
 use Rattle.tn_stream.specs.Images.{ImageBytes}
-use Rattle.tn_stream.specs.Branches.{Children, Branch}
-use Rattle.tn_stream.specs.Streams.{Site, own_load, nothing, nop_of, run_of, wave_below, wave as wave_of}
+use Rattle.tn_stream.specs.Branches.{Branch}
+use Rattle.tn_stream.specs.Streams.{Site, wave_below, wave as wave_of}
 use Rattle.tn_stream.specs.Waves.{first_of, last_of}
-use Rattle.tn_stream.specs.LoadBranches.{hung, site_of, branch_at}
+use Rattle.tn_stream.specs.LoadBranches.{hung, branch_at}
 use Rattle.tn_stream.proofs.LoadBranchLaws.{linked, branch-is, IsBehind, children-behind}
 use Rattle.tn_stream.proofs.LengthLaws.{part-bound}
 use Rattle.tn_network.specs.Holds.{HoldState}
 use Rattle.tn_network.specs.Resets.{PowerState}
 use Rattle.tn_load.specs.Inner.Lives.{AreLinked, Fits}
-use Rattle.tn_load.specs.Boots.{image_at, no_power, power_at}
+use Rattle.tn_load.specs.Boots.{image_at, power_at}
 use Rattle.tn_load.specs.Inner.Loadings.{place_of, IsLoading}
 use Rattle.tn_load.proofs.Plains.{plain_is_plain}
 use Rattle.tn_load.proofs.TreePlaces.{IsPlaceOf, placed}

@@ -57,25 +57,36 @@ quietly e n h = go e.outcome h
     go (outcome.Stopped why) h = cc
 
 -- a step executes the byte that is fetched
-step-byte : {M : Type 0} (access : Access M) (busy : ℕ) (slice : Bool) (clock : ℕ) (s : State M) (byte : ℕ) → access.byte s.memory s.iptr ≡ Ok byte
+step-byte : {M : Type 0} (access : Access M) (busy : ℕ) (slice : Bool) (clock : ℕ) (s : State M) (byte : ℕ)
+    → access.byte s.memory s.iptr ≡ Ok byte
     → step access busy slice clock s ≡ execute_byte access byte busy slice clock s
 unfolding step
 step-byte access busy slice clock s byte fetched = rw fetched refl
 
 -- one byte step whose byte is known
-pub byte-steps : {M : Type 0} (access : Access M) (k : ℕ) (s : State M) (byte : ℕ) (e : Ended M) → is_running s.life && nat_lt s.iptr load_base ≡ true → access.byte s.memory s.iptr ≡ Ok byte → ((slice : Bool) (clock : ℕ) → execute_byte access byte 0 slice clock s ≡ e) → NodeDoes access k Step (running s) (ended e (running s))
+pub byte-steps : {M : Type 0} (access : Access M) (k : ℕ) (s : State M) (byte : ℕ) (e : Ended M)
+    → is_running s.life && nat_lt s.iptr load_base ≡ true → access.byte s.memory s.iptr ≡ Ok byte
+    → ((slice : Bool) (clock : ℕ) → execute_byte access byte 0 slice clock s ≡ e)
+    → NodeDoes access k Step (running s) (ended e (running s))
 unfolding node_step
-byte-steps access k s byte e test fetched h =
-    (grind (arith, nat_tests), λ slice clock. ap (λ (x : Ended _). ended x (running s)) (step-byte access 0 slice clock s byte fetched ∙ h slice clock))
+byte-steps access k s byte e test fetched h = (
+  grind (arith, nat_tests),
+  λ slice clock. ap (λ (x : Ended _). ended x (running s))
+      (step-byte access 0 slice clock s byte fetched ∙ h slice clock),
+)
 
-pub walks : {M : Type 0} (access : Access M) (space : List ℕ → M) (Q : List ℕ → Type 0) (k at : ℕ) (code : List ℕ) (n : ℕ) (s t : State M) (m : List ℕ) → s.memory ≡ space m → Q m → Code access s.memory at code → Walks access at code n s t → Leads access space Q k (steps n) (running s) (running t)
+pub walks : {M : Type 0} (access : Access M) (space : List ℕ → M) (Q : List ℕ
+    → Type 0) (k at : ℕ) (code : List ℕ) (n : ℕ) (s t : State M) (m : List ℕ) → s.memory ≡ space m → Q m → Code access s.memory at code
+    → Walks access at code n s t → Leads access space Q k (steps n) (running s) (running t)
 walks access space Q k at code zero s t m is q c w = subst (λ (u : State _). Leads access space Q k [] (running s) (running u)) w done
 walks access space Q k at code (suc n) s t m is q c w =
     let next : State _ = (turn access at code false 0 s).state in
     let low : s.iptr ≡ at + (s.iptr - at) = grind (arith, nat_tests, w.0) in
     let within : s.iptr - at < length code = grind (arith, nat_tests, w.0) in
-    let fetched : access.byte s.memory s.iptr ≡ Ok (slice_index code (s.iptr - at)) = subst (λ (i : ℕ). access.byte s.memory i ≡ Ok (slice_index code (s.iptr - at))) (sym low) (c (s.iptr - at) within) in
-    let goes = byte-steps access k s (slice_index code (s.iptr - at)) (turn access at code false 0 s) (grind (arith, nat_tests, w.0)) fetched w.1 in
+    let fetched : access.byte s.memory s.iptr ≡ Ok (slice_index code (s.iptr - at)) =
+    subst (λ (i : ℕ). access.byte s.memory i ≡ Ok (slice_index code (s.iptr - at))) (sym low) (c (s.iptr - at) within) in
+    let goes = byte-steps access k s (slice_index code (s.iptr - at)) (turn access at code false 0 s) (grind (arith, nat_tests, w.0))
+    fetched w.1 in
     let quiet = quietly (turn access at code false 0 s) (running s) w.2 in
     let rest = walks access space Q k at code n next t m (w.3 ∙ is) q (subst (λ m. Code access m at code) (sym w.3) c) w.4 in
     more (subst (λ u. NodeDoes access k Step (running s) u) quiet goes) (record { memory = m; is = w.3 ∙ is; fact = q }) rest

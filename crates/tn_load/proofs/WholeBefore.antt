@@ -1,14 +1,13 @@
 -- Before any processor stands at its entry, the images of all are whole.
-use Rattle.std.proofs.Common.{◌≡◌, ℕ, zero, suc, ◌+◌, ◌==◌, ◌<◌, ◌≤◌, Bool, true, false, List, [], ◌∷◌, ◌++◌, length}
+use Rattle.std.proofs.Common.{◌≡◌, ℕ, zero, suc, ◌+◌, ◌==◌, ◌<◌, ◌≤◌, true, List, [], ◌∷◌, ◌++◌, length}
 use Rattle.std.proofs.Common.{Option, Some, None, refl, sym, ap, ◌∙◌, subst, arith, append-nil, length-append}
-use Rattle.std.specs.Prelude.{is_some, if◌then◌else◌, slice_get}
+use Rattle.std.specs.Prelude.{is_some}
 use Rattle.std.proofs.lemmas.Bool.Decides.{nat_tests}
-use Rattle.tn_net.specs.declared.networks.Far.{Far}
-use Rattle.tn_net.specs.declared.networks.Far.TheVariants.{Nothing, Host, Link}
-use Rattle.tn_net.specs.Networks.{NetworkState, IsEnd, far_at}
+use Rattle.tn_net.specs.declared.networks.Far.TheVariants.{Link}
+use Rattle.tn_net.specs.Networks.{NetworkState, IsEnd}
 use Rattle.tn_net.specs.Trees.{LoadNode, node_at}
 use Rattle.tn_stream.specs.Images.{ImageBytes}
-use Rattle.tn_stream.specs.Streams.{nothing, run_of, wave, start_part}
+use Rattle.tn_stream.specs.Streams.{nothing, run_of, wave}
 use Rattle.tn_stream.specs.LoadBranches.{branch_at}
 use Rattle.tn_stream.proofs.LoadBranchLaws.{parent-before}
 use Rattle.tn_node.specs.Nodes.{NodeState}
@@ -21,7 +20,7 @@ use Rattle.tn_network.specs.Resets.{PowerState}
 use Rattle.tn_load.specs.Acts.{Act, Post}
 use Rattle.tn_load.specs.LoneRuns.{takes_of, sends_of, is_waiting}
 use Rattle.tn_load.specs.Plans.{Moment, Course, Plan, Follow, IsCourse, now, acts_of, acts_left, first_node, plan_behind}
-use Rattle.tn_load.specs.Shares.{taken_by, latch_of, bytes_in, outgoing, waiting, incoming}
+use Rattle.tn_load.specs.Shares.{latch_of, bytes_in, outgoing, waiting, incoming}
 use Rattle.tn_load.specs.Keep.{UnderWay}
 use Rattle.tn_load.specs.Inner.NodeActs.{Holds}
 use Rattle.tn_load.specs.Boots.{image_at}
@@ -32,11 +31,12 @@ use Rattle.tn_load.proofs.LoneNodes.{StandsLast}
 use Rattle.tn_load.proofs.Onward.{behind-kept, course-goes}
 use Rattle.tn_load.proofs.TreeActs.{part-sent}
 use Rattle.tn_load.proofs.TreePlaces.{place-is, IsUnder, under}
-use Rattle.tn_load.proofs.TreeRuns.{branch, power, site-is, spotted}
-use Rattle.tn_load.proofs.TreePlans.{Facts, IsPlanned, tree_plan, planned}
+use Rattle.tn_load.proofs.TreeRuns.{power, site-is, spotted}
+use Rattle.tn_load.proofs.TreePlans.{Facts, tree_plan, planned}
 
 -- what holds of the node that a course has come to
-fact_now : {N : Type 0} (ops : _) (post : Post) (Q : N → List Act → Type 0) (moments : List (Moment N)) (end : N) → Follow ops post Q moments end
+fact_now : {N : Type 0} (ops : _) (post : Post) (Q : N → List Act → Type 0) (moments : List (Moment N)) (end : N)
+    → Follow ops post Q moments end
     → Q (first_node end moments) (acts_of moments)
 fact_now ops post Q [] end h = h.0
 fact_now ops post Q (m ∷ moments) end h = h.0
@@ -62,7 +62,8 @@ module _ (network : NetworkState) (nodes : List LoadNode) (images : List ImageBy
   -- the boot link of each course is that of its place, and the facts go on
   boot-is : (p : ℕ) → p < length network.sizes → (plan.courses p).boot ≡ (node_at nodes (place_of nodes p)).boot_link
   boot-is p inside =
-      behind-kept (λ q (c : Course (NodeState (List ℕ))). c.boot ≡ (node_at nodes (place_of nodes q)).boot_link) (λ q c is. is) network picks
+      behind-kept (λ q (c : Course (NodeState (List ℕ))). c.boot ≡ (node_at nodes (place_of nodes q)).boot_link) (λ q c is. is) network
+      picks
       first_plan p (planned network nodes images powers holds h p inside).boot
 
   facts : (p : ℕ) → p < length network.sizes → Facts network nodes images powers holds h p (now (plan.courses p)) (left p)
@@ -70,7 +71,8 @@ module _ (network : NetworkState) (nodes : List LoadNode) (images : List ImageBy
       let course = behind-kept (IsCourse memory_ops holds (Facts network nodes images powers holds h))
       (course-goes memory_ops holds (Facts network nodes images powers holds h)) network picks first_plan p
       (planned network nodes images powers holds h p inside).course in
-      fact_now memory_ops (record { holds = holds; processor = p; boot = (plan.courses p).boot }) (Facts network nodes images powers holds h p)
+      fact_now memory_ops (record { holds = holds; processor = p; boot = (plan.courses p).boot })
+      (Facts network nodes images powers holds h p)
       (plan.courses p).moments (plan.courses p).end course.follow
 
   -- ---- by places
@@ -135,7 +137,8 @@ module _ (network : NetworkState) (nodes : List LoadNode) (images : List ImageBy
       let parts = parts-are (suc k) within up in
       let few : length (sends_of (node_at nodes (suc k)).parent_link (left (at up.parent)))
       < last_parts (branch_at images nodes up.parent).below (node_at nodes (suc k)).parent_link = omega (arith, sent, parts, less) in
-      upward fuel up.parent (omega (arith, before, small)) up.within ((along up.parent up.within).less (node_at nodes (suc k)).parent_link few)
+      upward fuel up.parent (omega (arith, before, small)) up.within
+      ((along up.parent up.within).less (node_at nodes (suc k)).parent_link few)
 
   -- where the root takes its part of the last wave, no place has more than its own left to take
   downward : (fuel k : ℕ) → k < fuel → k < length nodes → length (takes_of (left (at 0))) ≤ last_of_place 0
@@ -176,6 +179,7 @@ module _ (network : NetworkState) (nodes : List LoadNode) (images : List ImageBy
       (omega (arith, none_at, some-last (place_of nodes p))) in
       let there = spotted network nodes images powers holds h q within in
       let few = downward (suc (place_of nodes q)) (place_of nodes q) (omega arith) there.within (omega (arith, root)) in
-      let few_left : length (takes_of (left q)) ≤ last_of_place (place_of nodes q) = omega (arith, few, ap (λ x. length (takes_of (left x))) there.processor) in
+      let few_left : length (takes_of (left q)) ≤ last_of_place (place_of nodes q) =
+      omega (arith, few, ap (λ x. length (takes_of (left x))) there.processor) in
       subst (λ i. Holds (λ m. m) (Whole i (power network nodes images powers holds h q).bytes) (now (plan.courses q)))
       (ap (λ x. x.image) (site-is network nodes images powers holds h q within)) ((facts q within).0.0 few_left)

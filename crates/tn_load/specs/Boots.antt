@@ -1,12 +1,13 @@
 -- Boots: a stream loads a network, whatever the memories held and in whatever order the steps come.
-use Rattle.std.specs.Prelude.{◌≡◌, ◌↔◌, ◌⊎◌, ℕ, ◌-◌, ◌<◌, ◌≤◌, true, false, List, [], ◌++◌, map, length, All, slice_index, slice_index_or}
+use Rattle.std.specs.Prelude.{◌≡◌, ◌↔◌, ◌⊎◌, ℕ, ◌-◌, ◌<◌, ◌≤◌, true, false, List, [], ◌∷◌, ◌++◌, map, length, All, None, slice_index}
+use Rattle.std.specs.Prelude.{slice_index_or}
 use Rattle.tn_word.specs.Words.{most_neg, load_base}
 use Rattle.tn_net.specs.Networks.{NetworkState, IsPairing}
 use Rattle.tn_net.specs.Trees.{LoadNode, IsLoadTree}
 use Rattle.tn_net.specs.WholeTrees.{IsWholeTree}
 use Rattle.tn_stream.specs.Images.{SegmentBytes, ImageBytes, AreImages}
 use Rattle.tn_stream.specs.PlainImages.{end, IsPlain}
-use Rattle.tn_stream.specs.Streams.{stream}
+use Rattle.tn_stream.specs.Streams.{stream, one_processor}
 use Rattle.tn_stream.specs.Lengths.{load_steps}
 use Rattle.tn_stream.specs.LoadBranches.{no_image, whole_branch}
 use Rattle.tn_node.specs.Nodes.{NodeState}
@@ -113,3 +114,14 @@ Loading =
     (network : NetworkState) (nodes : List LoadNode) (images : List ImageBytes) → IsPairing network → IsLoadTree network nodes
     → IsWholeTree nodes (length network.sizes) → AreFor network images
     → Boots network images (stream (whole_branch images nodes)) (load_steps images nodes)
+
+-- the one node of a network of one processor that boots by link k
+abbrev pub alone_node : ℕ → LoadNode
+alone_node k = record { processor = 0; parent = None; parent_link = 0; boot_link = k; children = [] }
+
+-- The same for any single processor: the stream of one that boots by the link that the host is wired to.
+abbrev pub LoadingOne : Type 0
+LoadingOne =
+    (network : NetworkState) (image : ImageBytes) → IsPairing network → length network.sizes ≡ 1 → AreFor network (image ∷ [])
+    → Boots network (image ∷ []) (stream (one_processor network.root_link image))
+        (load_steps (image ∷ []) (alone_node network.root_link ∷ []))

@@ -4,8 +4,7 @@ pub mod Plans
 pub mod Shares
 pub mod UnderWay
 pub mod Keep
+pub mod Exchange
 pub mod Targets
 pub mod Boots
 pub mod Inner
-pub mod Exchange
-pub mod Boots

@@ -2,7 +2,7 @@
 #![tactic(auto)]
 
 mod laws;
-mod loads;
+mod theorems;
 
 pub use laws::{commute, ends_once, exchange, goes_along, goes_on, keep};
-pub use loads::boots;
+pub use theorems::{boots, boots_one};

@@ -1,5 +1,5 @@
 -- A plan that gives something came to it through each of its parts.
-use Rattle.std.proofs.Common.{◌≡◌, ◌⊎◌, inl, inr, ℕ, ◌<◌, ◌≤◌, List, [], length, Option, Some, None, IfSome, Result, refl, sym, ap, ◌∙◌, subst}
+use Rattle.std.proofs.Common.{◌≡◌, ◌⊎◌, inl, inr, ℕ, ◌≤◌, List, [], length, Option, Some, None, IfSome, Result, refl, sym, ap, ◌∙◌, subst}
 use Rattle.tn_io.specs.FileLists.{Files, held}
 use Rattle.tn_text.specs.declared.limits.TheConstants.{FILE_LIMIT}
 use Rattle.tn_io.specs.Outs.{Printed, told_then}
@@ -187,9 +187,9 @@ ends-shown config before after old new r ends e =
 
 -- ---- one
 
-started : (source target : List ℕ) (link : ℕ) (before after : Stored) → link < 4
+started : (source target : List ℕ) (link : ℕ) (before after : Stored)
     → Wrote (then_plan (code_plan source) (written_from target (boot_stream link))) before after → IsStarted source target link before after
-started source target link before after low w =
+started source target link before after w =
     let made = came-through before.files (done (Some (w.file, w.bytes)) []) (code_plan source) (written_from target (boot_stream link)) w.goes in
     let same : done (Some (target, boot_stream link made.0)) [] ≡ done (Some (w.file, w.bytes)) [] =
     given-same before.files (done (Some (w.file, w.bytes)) []) (done (Some (target, boot_stream link made.0)) [])
@@ -200,15 +200,15 @@ started source target link before after low w =
       found = made.1;
       written = subst (λ n. Told before.files after.files (Holds n (boot_stream link made.0))) written.0
           (subst (λ b. Told before.files after.files (Holds w.file b)) written.1 w.told);
-      boots = one-boots link made.0 low;
+      boots = one-boots link made.0;
     }
 
 pub ends-started : {T : Type 0} (source target : List ℕ) (link : ℕ) (before after : Stored) (old new : Printed) (r : Result T Refusal)
-    → link < 4 → Ends (then_plan (code_plan source) (written_from target (boot_stream link))) before after old new r
+    → Ends (then_plan (code_plan source) (written_from target (boot_stream link))) before after old new r
     → end_status r ≡ status.Done → IsStarted source target link before after
-ends-started source target link before after old new r low ends e =
+ends-started source target link before after old new r ends e =
     elim (ends-done (then_plan (code_plan source) (written_from target (boot_stream link))) before after old new r ends e) [
-      | inl w ↦ started source target link before after low w
+      | inl w ↦ started source target link before after w
       | inr s ↦ (let made = came-through before.files (done None s.text) (code_plan source) (written_from target (boot_stream link)) s.goes in
         let same : done (Some (target, boot_stream link made.0)) [] ≡ done None s.text =
         given-same before.files (done None s.text) (done (Some (target, boot_stream link made.0)) []) (gives (done None s.text)) refl made.2 in

@@ -1,17 +1,12 @@
 -- What was made of a configuration or of a source, and what the stream does in its network.
-use Rattle.std.specs.Prelude.{◌≡◌, ℕ, ◌+◌, ◌≤◌, ◌==◌, List, [], ◌∷◌, map, length, None, if◌then◌else◌}
-use Rattle.tn_mem.specs.Sizes.{IsMemorySize}
-use Rattle.tn_word.specs.Words.{most_neg, load_base}
+use Rattle.std.specs.Prelude.{◌≡◌, ℕ, List, [], ◌∷◌, length}
 use Rattle.tn_io.specs.Outs.{Printed, told_then}
 use Rattle.tn_io.specs.Stores.{Stored}
-use Rattle.tn_net.specs.declared.networks.Far.{Far}
-use Rattle.tn_net.specs.declared.networks.Far.TheVariants.{Nothing, Host}
-use Rattle.tn_net.specs.Networks.{NetworkState}
-use Rattle.tn_net.specs.Trees.{LoadNode}
+use Rattle.tn_net.specs.Networks.{NetworkState, IsPairing}
 use Rattle.tn_stream.specs.Lengths.{load_steps}
 use Rattle.tn_system.specs.Sources.{Sources}
 use Rattle.tn_system.specs.Systems.{SystemState, IsSystem}
-use Rattle.tn_load.specs.Boots.{Boots}
+use Rattle.tn_load.specs.Boots.{AreFor, alone_node, Boots}
 use Rattle.tn_top.specs.Plans.{gives, Goes}
 use Rattle.tn_top.specs.Commands.{code_plan}
 use Rattle.tn_top.specs.OneProcessor.{code_image, boot_stream}
@@ -47,32 +42,13 @@ pub record IsShown (config : List ℕ) (before : Stored) (old new : Printed) : T
 
 -- ---- one processor
 
--- a network of one processor with a memory of so many bytes, with the host at a link of it
-abbrev pub host_at : ℕ → ℕ → Far
-host_at link l = if l == link then Host else Nothing
-
-abbrev pub single_network : ℕ → ℕ → NetworkState
-single_network size link = record {
-  sizes = size ∷ [];
-  fars = map (host_at link) (0 ∷ 1 ∷ 2 ∷ 3 ∷ []);
-  root = 0;
-  root_link = link;
-}
-
--- its load tree
-abbrev pub only_node : ℕ → LoadNode
-only_node link = record { processor = 0; parent = None; parent_link = 0; boot_link = link; children = [] }
-
--- the memory has room for code at the least address of an image
-abbrev pub HasRoom : ℕ → List ℕ → Type 0
-HasRoom size code = load_base + length code ≤ most_neg + size
-
--- the stream for code loads every processor whose memory has room for it
+-- the stream for code loads any single processor that the host is wired to by this link, where the memory
+-- can hold the code beside the loader
 abbrev pub OneBoots : ℕ → List ℕ → Type 0
 OneBoots link code =
-    (size : ℕ) → IsMemorySize size → HasRoom size code
-    → Boots (single_network size link) (code_image code ∷ []) (boot_stream link code)
-    (load_steps (code_image code ∷ []) (only_node link ∷ []))
+    (network : NetworkState) → IsPairing network → length network.sizes ≡ 1 → network.root_link ≡ link
+    → AreFor network (code_image code ∷ [])
+    → Boots network (code_image code ∷ []) (boot_stream link code) (load_steps (code_image code ∷ []) (alone_node link ∷ []))
 
 -- A source has this code; the stream that boots a processor with it by a link was written to a file, and
 -- loads the processor.

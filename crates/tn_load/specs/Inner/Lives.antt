@@ -1,5 +1,5 @@
 -- The acts of a processor of a tree, from its power-up to its entry, and what they leave in its memory.
-use Rattle.std.specs.Prelude.{⊤, ℕ, zero, suc, ◌≡◌, ◌+◌, ◌-◌, ◌*◌, ◌/◌, ◌<◌, ◌≤◌, ◌%◌, ◌^◌, ◌==◌, List, [], ◌∷◌, ◌++◌, length}
+use Rattle.std.specs.Prelude.{⊤, ℕ, zero, suc, ◌≡◌, ◌+◌, ◌-◌, ◌/◌, ◌<◌, ◌≤◌, ◌%◌, ◌^◌, ◌==◌, List, [], ◌∷◌, ◌++◌, length}
 use Rattle.std.specs.Prelude.{map, replicate, take, drop, if◌then◌else◌}
 use Rattle.std.specs.List.{flat_map}
 use Rattle.tn_word.specs.Words.{most_neg, load_base, bytes_of_word}
@@ -37,7 +37,8 @@ forward_loop (suc q) l bytes =
 
 -- the acts that bring the loader in: a bootstrap, and the secondary behind its length
 abbrev pub loader_acts : ℕ → List Act
-loader_acts k = (Takes 57 ∷ takes (primary_bytes k)) ++ (steps 33 ++ (takes (bytes_of_word 55) ++ (steps 9 ++ (takes secondary_bytes ++ steps 19))))
+loader_acts k = (Takes 57 ∷ takes (primary_bytes k)) ++
+    (steps 33 ++ (takes (bytes_of_word 55) ++ (steps 9 ++ (takes secondary_bytes ++ steps 19))))
 
 -- the commands
 abbrev pub load_acts : SegmentBytes → List Act
@@ -47,7 +48,8 @@ abbrev pub loads_acts : List SegmentBytes → List Act
 loads_acts segments = flat_map load_acts segments
 
 abbrev pub forward_acts : ℕ → List ℕ → List Act
-forward_acts l bytes = takes (forward_command (out_channel_of l) (length bytes)) ++ (steps 7 ++ forward_loop ((length bytes - 1) / 128) l bytes)
+forward_acts l bytes = takes (forward_command (out_channel_of l) (length bytes)) ++
+    (steps 7 ++ forward_loop ((length bytes - 1) / 128) l bytes)
 
 abbrev pub nop_acts : List Act
 nop_acts = takes nop_command ++ steps 15

@@ -1,5 +1,5 @@
 -- What is loaded into a network: a load tree of it, and for each processor an image that its memory can hold.
-use Rattle.std.specs.Prelude.{◌≡◌, ℕ, zero, suc, ◌<◌, ◌≤◌, ◌==◌, List, [], ◌∷◌, length, slice_index, true, if◌then◌else◌}
+use Rattle.std.specs.Prelude.{◌≡◌, ℕ, suc, ◌<◌, ◌≤◌, ◌==◌, List, [], ◌∷◌, length, slice_index, true, if◌then◌else◌}
 use Rattle.tn_word.specs.Words.{load_base}
 use Rattle.tn_net.specs.Networks.{NetworkState, IsPairing, far_at}
 use Rattle.tn_net.specs.declared.networks.Far.{Far}
@@ -30,7 +30,8 @@ place_of [] p = 0
 place_of (node ∷ nodes) p = if node.processor == p then 0 else suc (place_of nodes p)
 
 -- a load tree of a network, images that fit, power-ups of the sizes of the memories, and holds at the entries
-pub record IsLoading (network : NetworkState) (nodes : List LoadNode) (images : List ImageBytes) (powers : List PowerState) (holds : HoldState) : Type 0 where
+pub record IsLoading (network : NetworkState) (nodes : List LoadNode) (images : List ImageBytes) (powers : List PowerState)
+    (holds : HoldState) : Type 0 where
   pub pairing : IsPairing network
   pub tree : IsLoadTree network nodes
   pub whole : IsWholeTree nodes (length network.sizes)

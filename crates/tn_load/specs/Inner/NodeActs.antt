@@ -21,7 +21,8 @@ is_closed None = true
 is_closed (Some e) = false
 
 abbrev pub all_shut : List (Option Engine) → Bool
-all_shut engines = is_closed (engine_of engines 0) && (is_closed (engine_of engines 1) && (is_closed (engine_of engines 2) && is_closed (engine_of engines 3)))
+all_shut engines = is_closed (engine_of engines 0) &&
+    (is_closed (engine_of engines 1) && (is_closed (engine_of engines 2) && is_closed (engine_of engines 3)))
 
 -- whether the engine of a link is open and all others are closed
 abbrev pub alone_at : ℕ → ℕ → Option Engine → Bool
@@ -29,7 +30,8 @@ alone_at link l (Some e) = l == link
 alone_at link l None = not (l == link)
 
 abbrev pub only_at : ℕ → List (Option Engine) → Bool
-only_at link engines = alone_at link 0 (engine_of engines 0) && (alone_at link 1 (engine_of engines 1) && (alone_at link 2 (engine_of engines 2) && alone_at link 3 (engine_of engines 3)))
+only_at link engines = alone_at link 0 (engine_of engines 0) &&
+    (alone_at link 1 (engine_of engines 1) && (alone_at link 2 (engine_of engines 2) && alone_at link 3 (engine_of engines 3)))
 
 abbrev pub is_running : Life → Bool
 is_running Running = true
@@ -80,12 +82,15 @@ abbrev pub Kept : (List ℕ → Type 0) → ℕ → ℕ → Type 0
 Kept Q from to = (m : List ℕ) (a : ℕ) (bytes : List ℕ) → from ≤ a → a + length bytes ≤ to → Q m → Q (put m a bytes)
 
 -- the acts, one after the other, lead from one node to another, and something holds of the memory after each
-pub data Leads {M : Type 0} (access : Access M) (space : List ℕ → M) (Q : List ℕ → Type 0) (k : ℕ) : List Act → NodeState M → NodeState M → Type 0 where
+pub data Leads {M : Type 0} (access : Access M) (space : List ℕ → M) (Q : List ℕ → Type 0) (k : ℕ) : List Act → NodeState M → NodeState M
+    → Type 0 where
   done : {n : NodeState M} → Leads access space Q k [] n n
-  more : {act : Act} {acts : List Act} {n t u : NodeState M} → NodeDoes access k act n t → Holds space Q t → Leads access space Q k acts t u → Leads access space Q k (act ∷ acts) n u
+  more : {act : Act} {acts : List Act} {n t u : NodeState M} → NodeDoes access k act n t → Holds space Q t
+      → Leads access space Q k acts t u → Leads access space Q k (act ∷ acts) n u
 
 -- ---- a lone run, with something that holds of each of its states and the acts that are left there
 
 abbrev pub NodeLone : {M : Type 0} → Access M → ℕ → (NodeState M → List Act → Type 0) → List Act → NodeState M → NodeState M → Type 0
 NodeLone access k Q [] n end = Q n [] × (n ≡ end)
-NodeLone access k Q (act ∷ acts) n end = Q n (act ∷ acts) × ((t : NodeState _) × (NodeDoes access k act n t × NodeLone access k Q acts t end))
+NodeLone access k Q (act ∷ acts) n end = Q n (act ∷ acts)
+    × ((t : NodeState _) × (NodeDoes access k act n t × NodeLone access k Q acts t end))

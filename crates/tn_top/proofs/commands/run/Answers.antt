@@ -1,7 +1,7 @@
-use Rattle.std.proofs.Common.{◌≡◌, ◌∙◌, sym, ap, subst, map, string_bytes, IfSome}
+use Rattle.std.proofs.Common.{◌≡◌, ◌∙◌, sym, ap, subst, map, string_bytes}
 use Rattle.std.proofs.lemmas.Option.{same_Some}
 use Rattle.std.specs.Option.{option_map}
-use Rattle.tn_top.specs.CommandWords.{one, build, tree, asked, HasLink}
+use Rattle.tn_top.specs.CommandWords.{one, build, tree, asked}
 use Rattle.tn_top.specs.Commands.{plan_of, plan_asked}
 use Rattle.tn_top.specs.Refusals.{end_line}
 use Rattle.tn_top.proofs.PlanLaws.{one_of_asked}
@@ -106,7 +106,6 @@ returns-clause-started g c = λ source target link is said.
     let ended = c.perform-ended.ensures.ends found.what found.reads in
     ends-started source target link (g.S.Store.stored c.args.store.now) (g.S.Store.stored c.perform-ended.new.store)
     (g.O.Out.printed c.args.out.now) (g.O.Out.printed c.perform-ended.new.out) c.perform-ended.result
-    (subst (λ a. IfSome a HasLink) is (asked-links (map string_bytes c.args.words.now)))
     (subst (λ a. Ends (plan_of a) (g.S.Store.stored c.args.store.now) (g.S.Store.stored c.perform-ended.new.store)
     (g.O.Out.printed c.args.out.now) (g.O.Out.printed c.perform-ended.new.out) c.perform-ended.result) what ended)
     (sym c.status_of.ensures ∙ said)
