@@ -48,7 +48,7 @@ system-boots s y is = boots y.network y.nodes y.images is.pairing is.tree whole 
 
     for : AreFor y.network y.images
     for = record {
-      count = sym (AllZip-long IsPlainFor s.config.blocks y.images is.plain) ∙ sym many;
+      count = AllZip-long IsPlainFor s.config.blocks y.images is.plain ∙ sym many;
       segments = is.short;
       plain = λ p here. subst (λ sizes. IsPlain (get_or sizes p 0) (get_or y.images p no_image)) (sym sizes)
           (plain-at s.config.blocks y.images p is.plain (omega (arith, here, many)));
