@@ -12,3 +12,5 @@ pub mod EnabledLaws
 pub mod RenewLaws
 pub mod NetLaws
 pub mod PowerLaws
+pub mod ItemLaws
+pub mod GuardLaws

@@ -1,6 +1,7 @@
 pub mod Hosts
 pub mod Boards
 pub mod NodeOps
+pub mod Items
 pub mod Steps
 pub mod Holds
 pub mod PickLists
@@ -8,5 +9,6 @@ pub mod Resets
 pub mod Locality
 pub mod Wires
 pub mod Nets
+pub mod GuardedBoards
 pub mod Loads
 pub mod Inner

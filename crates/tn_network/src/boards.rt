@@ -145,8 +145,9 @@ impl<M: Space> Board<M> {
     }
 
     /// The number of processors.
-    pub(crate) fn count(&self) -> u32
+    pub fn count(&self) -> u32
         ensures value { result ≡ length self.now.state.nodes }
+        ensures sizes { result ≡ length self.now.network.sizes }
         ensures few { result ≤ PROCESSOR_LIMIT }
     {
         self.wiring.count()

@@ -5,8 +5,10 @@
 
 mod bits;
 mod boards;
+mod guards;
 mod holds;
 mod hosts;
+mod items;
 mod nets;
 mod numbers;
 mod picks;

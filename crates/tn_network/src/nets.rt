@@ -5,6 +5,7 @@ ghost use Rattle.tn_network.specs.Steps.{made_by_pick};
 ghost use Rattle.tn_network.specs.Resets.{power_of, AreSized, reset_net};
 ghost use Rattle.tn_network.specs.Locality.{IsLocal};
 ghost use Rattle.tn_network.specs.PickLists.{AtRest, first_pick};
+ghost use Rattle.tn_network.specs.GuardedBoards.{guarded_wired, AreQuiet};
 ghost use Rattle.tn_network.specs.Nets.{memory_ops, net_enabled, net_after, released};
 
 use crate::bits::{WORD_BITS, edge_bit, first_bit, has_bit, no_bits};
@@ -16,7 +17,7 @@ use crate::powers::{Power, powered_nodes};
 use crate::renewals::{renew_all, renew_touched};
 use std::alloc::Global;
 use std::marker::Model;
-use tn_mem::Memory;
+use tn_mem::{CodeFree, Memory};
 use tn_net::Network;
 use tn_node::{Made, Node};
 
@@ -172,5 +173,16 @@ impl Net {
         ensures { result.now ≡ self.now.board }
     {
         &self.board
+    }
+
+    /// An equal board over copies of the memories, without the holds, in which the addresses from the
+    /// first of a region up to, but not including, the second are guarded: one region for each
+    /// processor. All engines are closed.
+    pub fn guarded(&self, regions: &[(u32, u32)]) -> Result<Board<CodeFree>, NoMemory>
+        requires regions { length regions.now ≡ length self.now.board.state.nodes }
+        requires quiet { AreQuiet self.now.board.state.nodes }
+        ensures { IfOk result (λ board. board ≡ guarded_wired regions.now self.now.board) }
+    {
+        self.board.guarded(regions)
     }
 }
