@@ -5,7 +5,6 @@
 #![tactic(auto)]
 
 mod codings;
-mod commands;
 mod configs;
 mod faults;
 mod flat_sources;
@@ -21,13 +20,11 @@ mod streams;
 mod texts;
 
 use std::alloc::Global;
-use std::{env, fs, io};
-use tn_io::{HostOut, Out};
-use tn_tables::{Case, Line, Report, Stop, cases_of};
+use std::io;
+use tn_tables::{Case, Line, Report, Stop, Tables, run_tables};
 
 /// The tables, in the order of what is printed.
-const TABLES: [&str; 15] = [
-    "commands",
+const TABLES: [&str; 14] = [
     "stores",
     "texts",
     "faults",
@@ -45,64 +42,29 @@ const TABLES: [&str; 15] = [
 ];
 
 fn main(rt: HostRuntime) -> io::Result<()> {
-    let folder = folder_of(&rt)?;
-    let mut report = Report::new(rt.alloc());
-    let mut ended = Ok(());
-    for table in TABLES {
-        let text = text_of(&rt, folder.as_str(), table)?;
-        ended = run_table(rt.alloc(), table, text.as_str(), &mut report);
-        if ended.is_err() {
-            break;
+    run_tables(&rt, &TABLES, &ToolTables)
+}
+
+/// The tables of the tools.
+struct ToolTables;
+
+impl Tables for ToolTables {
+    /// Runs a case of a table: line by line, where no line rests on those before.
+    fn run_case(
+        &self,
+        alloc: Global,
+        table: &str,
+        case: &Case<'_>,
+        report: &mut Report,
+    ) -> Result<(), Stop> {
+        match table {
+            "stores" => stores::run_case(alloc, case, report),
+            "layouts" => layouts::run_case(alloc, case, report),
+            "modules" => modules::run_case(alloc, case, report),
+            "configs" => configs::run_case(alloc, case, report),
+            "links" => links::run_case(alloc, case, report),
+            table => run_lines(alloc, table, case, report),
         }
-    }
-    print(&rt, report.text(), ended.is_ok())
-}
-
-/// The folder of the tables: the first word after the program's name.
-fn folder_of(rt: &HostRuntime) -> io::Result<String> {
-    match env::args(rt)?.nth(1) {
-        Some(folder) => Ok(folder),
-        None => Ok(String::from_str(rt.alloc(), ".")?),
-    }
-}
-
-/// The text of a table.
-fn text_of(rt: &HostRuntime, folder: &str, table: &str) -> io::Result<String> {
-    let path = format!(in rt.alloc(); "{folder}/{table}.txt")?;
-    fs::read_to_string(rt, path.as_str())
-}
-
-/// Prints a report by the program's own output.
-fn print(rt: &HostRuntime, report: &str, whole: bool) -> io::Result<()> {
-    let mut out = HostOut::standard(rt);
-    let last = if whole {
-        "all tables were run\n"
-    } else {
-        "no memory\n"
-    };
-    let _ = out.write(report.as_bytes());
-    let _ = out.write(last.as_bytes());
-    Ok(())
-}
-
-fn run_table(alloc: Global, table: &str, text: &str, report: &mut Report) -> Result<(), Stop> {
-    for case in cases_of(alloc, text)?.iter() {
-        let ended = run_case(alloc, table, case, report);
-        report.end_case(case.name, ended)?;
-    }
-    report.end_table(alloc, table)
-}
-
-/// Runs a case of a table: line by line, where no line rests on those before.
-fn run_case(alloc: Global, table: &str, case: &Case<'_>, report: &mut Report) -> Result<(), Stop> {
-    match table {
-        "commands" => commands::run_case(alloc, case, report),
-        "stores" => stores::run_case(alloc, case, report),
-        "layouts" => layouts::run_case(alloc, case, report),
-        "modules" => modules::run_case(alloc, case, report),
-        "configs" => configs::run_case(alloc, case, report),
-        "links" => links::run_case(alloc, case, report),
-        table => run_lines(alloc, table, case, report),
     }
 }
 

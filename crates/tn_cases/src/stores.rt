@@ -2,11 +2,10 @@ ghost use Rattle.std.specs.Prelude.{◌≡◌, ◌-◌, ◌^◌, ◌<◌, ◌≤
 ghost use Rattle.tn_io.specs.FileLists.{HasDistinctNames};
 ghost use Rattle.tn_io.specs.MemStores.{files_of};
 
-use crate::commands::held;
 use std::alloc::Global;
 use tn_io::{FileOut, FileText, MemOut, MemStore, Out, OutFault, PutKind, SafeStore, Store};
 use tn_list::Printed;
-use tn_tables::{Case, Line, Report, Stop, decimal, said};
+use tn_tables::{Case, Line, Report, Stop, decimal, decimals, held, said};
 use tn_text::{Put, PutRefused};
 
 /// Runs a case of the table of stores and outputs. Its first line says what it is of.
@@ -160,19 +159,4 @@ fn one_file(alloc: Global, name: &str, bytes: &[u8]) -> Result<Vec<(FileText, Ve
     let mut files = Vec::new(alloc);
     files.push((name, bytes))?;
     Ok(files)
-}
-
-/// A store without files.
-#[tactic(auto, unfolding(tn_io::specs::FileLists::HasDistinctNames))]
-pub fn empty_store(alloc: Global, failing: Vec<u64>) -> MemStore {
-    MemStore::new(Vec::new(alloc), failing)
-}
-
-/// Numbers in decimal.
-pub fn decimals(alloc: Global, words: &[&str]) -> Result<Vec<u64>, Stop> {
-    let mut numbers = Vec::new(alloc);
-    for word in words {
-        numbers.push(decimal(word)?)?;
-    }
-    Ok(numbers)
 }

@@ -1,9 +1,11 @@
-ghost use Rattle.std.specs.Prelude.{◌<◌, ◌≤◌, ◌^◌, length, vec_len, IfOk};
-ghost use Rattle.tn_stream.specs.Images.{image_of, AreLoadable};
+ghost use Rattle.std.specs.Prelude.{◌≡◌, ◌<◌, ◌≤◌, ◌^◌, length, vec_len, IfOk};
+ghost use Rattle.tn_net.specs.WholeTrees.{IsWholeTree};
+ghost use Rattle.tn_stream.specs.Images.{image_of, images_of, IsImage, AreImages};
 
 use std::alloc::{AllocError, Global};
 use tn_io::MemOut;
-use tn_stream::{Image, Segment, StreamFault, collect_one};
+use tn_net::{Tree, TreeNode};
+use tn_stream::{Image, Segment, StreamFault, collect};
 use tn_tables::{Line, Stop};
 use tn_word::LOAD_BASE;
 
@@ -27,21 +29,38 @@ fn collected(alloc: Global, link: u8, code: &[u8], failing: Option<u64>) -> Resu
     requires link { link < 4 }
     requires code { length code.now ≤ 2 ^ 10 }
 {
-    let image = image(alloc, code)?;
+    let tree = single_tree(alloc, link)?;
+    let images = [image(alloc, code)?];
     let mut calls = Vec::new(alloc);
     if let Some(call) = failing {
         calls.push(call)?;
     }
     let mut out = MemOut::new(calls);
-    let collected = collect_one(alloc, link, &image, &mut out);
+    let collected = collect(&tree, &images, &mut out);
     told(alloc, collected, out.bytes().len())
+}
+
+/// The load tree of one processor, which boots by this link.
+fn single_tree(alloc: Global, link: u8) -> Result<Tree, AllocError>
+    requires { link < 4 }
+    ensures { IfOk result (λ tree. IsWholeTree tree.nodes.items 1) }
+{
+    let root = TreeNode {
+        processor: 0,
+        parent: None,
+        parent_link: 0,
+        boot_link: link,
+        children: Vec::new(alloc),
+    };
+    let mut nodes = Vec::new(alloc);
+    nodes.push(root)?;
+    Ok(Tree { nodes })
 }
 
 /// An image of the code alone, or of nothing.
 fn image(alloc: Global, code: &[u8]) -> Result<Image, AllocError>
     requires { length code.now ≤ 2 ^ 10 }
-    ensures few { IfOk result (λ image. vec_len image.segments ≤ 1) }
-    ensures loadable { IfOk result (λ image. AreLoadable (image_of image).segments) }
+    ensures { IfOk result (λ image. IsImage (image_of image)) }
 {
     let mut segments = Vec::new(alloc);
     if !code.is_empty() {

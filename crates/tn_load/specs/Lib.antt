@@ -1,3 +1,12 @@
+pub mod Acts
+pub mod LoneRuns
+pub mod Plans
+pub mod Shares
+pub mod UnderWay
+pub mod Keep
+pub mod Exchange
+pub mod Targets
+pub mod Boots
 pub mod Settles
 pub mod NetWalks
 pub mod Targets

@@ -1,10 +1,15 @@
-//! Networks that are loaded: the state that they settle to, and the test of it.
+//! Networks that load: what each processor does alone, that no order of steps matters, the state that a network settles to,
+//! and the test that it is loaded.
 #![tactic(auto)]
 
+mod laws;
 mod loads;
 mod settles;
+mod theorems;
 mod walks;
 
+pub use laws::{commute, ends_once, exchange, goes_along, goes_on, keep};
 pub use loads::loaded;
 pub use settles::settle;
+pub use theorems::{boots, boots_one};
 pub use walks::Walk;

@@ -21,7 +21,7 @@ use Rattle.tn_system.specs.declared.files.NamedFiles.{NamedFiles}
 use Rattle.tn_system.specs.declared.systems.SystemFault.{SystemFault}
 use Rattle.tn_system.specs.Sources.{module_files, library_files, Sources, sources, AreRead, OfChosen}
 use Rattle.tn_system.specs.NamedFiles.{places_in, lists_of, block_places, named_files}
-use Rattle.tn_system.specs.Systems.{IsProcessorImage}
+use Rattle.tn_system.specs.Systems.{IsProcessorImage, IsPlainFor}
 use Rattle.tn_system.specs.Faults.{HasImage, IsModulesFault, IsProcessorFault}
 use Rattle.tn_system.specs.Inner.Offers.{IsOfferOf}
 use Rattle.tn_system.proofs.Choosing.{IsOffered}
@@ -94,14 +94,13 @@ module _ (config_file : List ℕ) (config : Config) (files : NamedFiles) (pool :
       before = map block_of (take k config.blocks.items)
 
       -- one image more
-      pub image-more : (images : List ImageBytes) (i : ImageBytes) → AllZip (IsProcessorImage s) before images
-          → IsProcessorImage s (block_of block) i
-          → AllZip (IsProcessorImage s) (map block_of (take (k + 1) config.blocks.items)) (images ++ i ∷ [])
-      image-more images i so_far this =
-          subst (λ l. AllZip (IsProcessorImage s) l (images ++ i ∷ []))
+      pub image-more : (P : BlockState → ImageBytes → Type 0) (images : List ImageBytes) (i : ImageBytes) → AllZip P before images
+          → P (block_of block) i → AllZip P (map block_of (take (k + 1) config.blocks.items)) (images ++ i ∷ [])
+      image-more P images i so_far this =
+          subst (λ l. AllZip P l (images ++ i ∷ []))
           (sym (ap (map block_of) (take_more config.blocks.items k block l ∙ ap (λ x. take k config.blocks.items ++ x ∷ []) (sym is))
           ∙ map-append block_of (take k config.blocks.items) (block ∷ [])))
-          (AllZip-push (IsProcessorImage s) before images (block_of block) i so_far this)
+          (AllZip-push P before images (block_of block) i so_far this)
 
       -- or the first that is refused
       pub refused-at : (images : List ImageBytes) (fault : SystemFault) → AllZip (IsProcessorImage s) before images
@@ -120,13 +119,17 @@ module _ (config_file : List ℕ) (config : Config) (files : NamedFiles) (pool :
       -- the images as the code holds them
       pub image-pushed : (images new : List Image) (image : Image) → new ≡ images ++ image ∷ []
           → AllZip (IsProcessorImage s) before (images_of images) × AreImages (images_of images)
-          → IsProcessorImage s (block_of block) (image_of image) → IsImage (image_of image)
+          × AllZip IsPlainFor before (images_of images)
+          → IsProcessorImage s (block_of block) (image_of image) → IsImage (image_of image) → IsPlainFor (block_of block) (image_of image)
           → AllZip (IsProcessorImage s) (map block_of (take (k + 1) config.blocks.items)) (images_of new) × AreImages (images_of new)
-      image-pushed images new image new_is so_far this is_image =
+          × AllZip IsPlainFor (map block_of (take (k + 1) config.blocks.items)) (images_of new)
+      image-pushed images new image new_is so_far this is_image is_plain =
           let same : images_of new ≡ images_of images ++ image_of image ∷ [] = ap images_of new_is ∙ map-append image_of images
           (image ∷ []) in (
             subst (AllZip (IsProcessorImage s) (map block_of (take (k + 1) config.blocks.items))) (sym same)
-                (image-more (images_of images) (image_of image) so_far.0 this),
+                (image-more (IsProcessorImage s) (images_of images) (image_of image) so_far.0 this),
             subst AreImages (sym same) (All-append IsImage (images_of images) (image_of image ∷ []) so_far.1
                 (All-cons IsImage (image_of image) [] is_image (All-nil IsImage))),
+            subst (AllZip IsPlainFor (map block_of (take (k + 1) config.blocks.items))) (sym same)
+                (image-more IsPlainFor (images_of images) (image_of image) so_far.2 is_plain),
           )

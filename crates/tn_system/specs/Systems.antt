@@ -8,7 +8,8 @@ use Rattle.tn_net.specs.Networks.{NetworkState, IsPairing, IsNetwork}
 use Rattle.tn_net.specs.Faults.{IsFaultless}
 use Rattle.tn_net.specs.Trees.{LoadNode, IsLoadTree}
 use Rattle.tn_net.specs.WholeTrees.{IsWholeTree}
-use Rattle.tn_stream.specs.Images.{ImageBytes, images_of}
+use Rattle.tn_stream.specs.Images.{ImageBytes, images_of, AreImages}
+use Rattle.tn_stream.specs.PlainImages.{IsPlain}
 use Rattle.tn_image.specs.Images.{IsImageFor}
 use Rattle.tn_system.specs.declared.systems.System.{System}
 use Rattle.tn_system.specs.Sources.{Sources, TextModule, parts_of, OfChosen}
@@ -32,10 +33,16 @@ pub record IsImageOf (b : BlockState) (i : ImageBytes) (modules : List TextModul
 abbrev pub IsProcessorImage : Sources → BlockState → ImageBytes → Type 0
 IsProcessorImage s b i = OfChosen s b (IsImageOf b i)
 
--- Each processor has its image; the network is the one that the configuration describes, without a
--- fault; and all its processors are in its load tree.
+-- the image can be loaded into the memory of the processor
+abbrev pub IsPlainFor : BlockState → ImageBytes → Type 0
+IsPlainFor b i = IsPlain b.size i
+
+-- Each processor has its image, which the checks have found plain; the network is the one that the
+-- configuration describes, without a fault; and all its processors are in its load tree.
 pub record IsSystem (s : Sources) (y : SystemState) : Type 0 where
   pub images : AllZip (IsProcessorImage s) s.config.blocks y.images
+  pub short : AreImages y.images
+  pub plain : AllZip IsPlainFor s.config.blocks y.images
   pub faultless : IsFaultless (described s.config)
   pub network : IsNetwork (described s.config) y.network
   pub pairing : IsPairing y.network

@@ -5,7 +5,7 @@ ghost use Rattle.tn_stream.specs.Images.{image_of, images_of, IsImage, AreImages
 ghost use Rattle.tn_image.specs.Images.{IsInRange};
 ghost use Rattle.tn_system.specs.Sources.{sources, AreRead};
 ghost use Rattle.tn_system.specs.NamedFiles.{lists_of, named_files};
-ghost use Rattle.tn_system.specs.Systems.{IsImageOf, IsProcessorImage};
+ghost use Rattle.tn_system.specs.Systems.{IsImageOf, IsProcessorImage, IsPlainFor};
 ghost use Rattle.tn_system.specs.Faults.{image_fault, IsModulesFault, IsProcessorFault, IfFault};
 ghost use Rattle.tn_system.specs.Inner.Offers.{offer_of, OfChoice, IsOfferOf};
 
@@ -36,6 +36,7 @@ pub(crate) fn images(
     ensures made { IfOk result (λ images. AllZip (IsProcessorImage (sources config_file.now config.now pool.now shelf.now))
         (config_of config.now).blocks (images_of images.items)) }
     ensures images { IfOk result (λ images. AreImages (images_of images.items)) }
+    ensures plain { IfOk result (λ images. AllZip IsPlainFor (config_of config.now).blocks (images_of images.items)) }
     ensures fault { IfErr result (λ fault. IfFault fault (IsProcessorFault (sources config_file.now config.now pool.now shelf.now))) }
 {
     let mut images = Vec::new(alloc);
@@ -66,6 +67,7 @@ fn processor_image(
     ensures made { IfOk result (λ image. OfChoice (offer_of offer.now) (block_of offer.now.block.now)
         (IsImageOf (block_of offer.now.block.now) (image_of image))) }
     ensures image { IfOk result (λ image. IsImage (image_of image)) }
+    ensures plain { IfOk result (λ image. IsPlainFor (block_of offer.now.block.now) (image_of image)) }
     ensures fault { IfErr result (λ fault. IfFault fault (λ told. OfChoice (offer_of offer.now) (block_of offer.now.block.now)
         (IsModulesFault config_file.now (block_of offer.now.block.now) told))) }
 {

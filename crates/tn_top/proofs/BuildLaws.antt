@@ -1,8 +1,8 @@
 -- A plan that gives something came to it through each of its parts.
-use Rattle.std.proofs.Common.{◌≡◌, ℕ, ◌≤◌, List, [], length, Option, Some, None, IfSome, Result, refl, sym, ap, ◌∙◌, subst}
+use Rattle.std.proofs.Common.{◌≡◌, ◌⊎◌, inl, inr, ℕ, ◌≤◌, List, [], length, Option, Some, None, IfSome, Result, refl, sym, ap, ◌∙◌, subst}
 use Rattle.tn_io.specs.FileLists.{Files, held}
 use Rattle.tn_text.specs.declared.limits.TheConstants.{FILE_LIMIT}
-use Rattle.tn_io.specs.Outs.{Printed}
+use Rattle.tn_io.specs.Outs.{Printed, told_then}
 use Rattle.tn_io.specs.Stores.{Stored}
 use Rattle.tn_config.specs.Configurations.{ConfigState}
 use Rattle.tn_system.specs.Sources.{Sources, module_files, library_files}
@@ -13,12 +13,16 @@ use Rattle.tn_top.specs.declared.statuses.Status.TheVariants as status
 use Rattle.tn_top.specs.Plans.{Answer, done, Plan, gives, stops, reads, settles, then_plan, each, Goes, stays, reads_on, too_long}
 use Rattle.tn_top.specs.Plans.{settles_on, settles_not}
 use Rattle.tn_top.specs.ModulePlans.{module_plan}
+use Rattle.tn_top.specs.Commands.{code_plan, written_from}
+use Rattle.tn_top.specs.OneProcessor.{boot_stream}
 use Rattle.tn_top.specs.SystemPlans.{config_plan, library_file_plan, sources_of, files_plan, system_plan, system_stream, stream_written}
+use Rattle.tn_top.specs.SystemPlans.{system_tree, tree_printed}
 use Rattle.tn_top.specs.Refusals.{end_status}
 use Rattle.tn_top.specs.Outcomes.{Told, Holds}
-use Rattle.tn_top.specs.Builds.{IsBuilt}
+use Rattle.tn_top.specs.Builds.{IsBuilt, IsShown, IsStarted}
 use Rattle.tn_top.specs.Inner.Ends.{Ends, wrote_all, showed_all, unable, wrote_part, wrote_for_want, showed_part, showed_for_want}
 use Rattle.tn_top.specs.Inner.Ends.{not_enabled}
+use Rattle.tn_top.proofs.SystemBoots.{system-boots, one-boots}
 
 module _ {B : Type 0} (files : Option Files) (b : B) where
   -- a plan that gives a value comes to no other
@@ -79,16 +83,52 @@ same-written : (target file made bytes : List ℕ) → done (Some (target, made)
 same-written target file made bytes e =
     let pair : ◌≡◌ {A = List ℕ × List ℕ} (target, made) (file, bytes) = cc in (ap (λ p. p.0) (sym pair), ap (λ p. p.1) (sym pair))
 
-built : (config target file bytes : List ℕ) (before after : Stored)
-    → Goes before.files (then_plan (system_plan config) (stream_written target)) (gives (done (Some (file, bytes)) []))
-    → Told before.files after.files (Holds file bytes) → IsBuilt config target before after
-built config target file bytes before after g t =
-    let made = came-through before.files (done (Some (file, bytes)) []) (system_plan config) (stream_written target) g in
-    let same : done (Some (target, system_stream made.0.1)) [] ≡ done (Some (file, bytes)) [] =
-    given-same before.files (done (Some (file, bytes)) []) (done (Some (target, system_stream made.0.1)) [])
-    (gives (done (Some (file, bytes)) [])) refl made.2 in
+same-text : (made text : List ℕ) → done None made ≡ done None text → text ≡ made
+same-text made text e = cc
+
+-- ---- how a command that is done ended
+
+-- the plan gave a file, which was written, or a text, which was printed
+record Wrote (plan : Plan Answer) (before after : Stored) : Type 0 where
+  file : List ℕ
+  bytes : List ℕ
+  goes : Goes before.files plan (gives (done (Some (file, bytes)) []))
+  told : Told before.files after.files (Holds file bytes)
+
+record Showed (plan : Plan Answer) (before : Stored) (old new : Printed) : Type 0 where
+  text : List ℕ
+  goes : Goes before.files plan (gives (done None text))
+  printed : new.bytes ≡ told_then text old.bytes
+
+ends-done : {T : Type 0} (plan : Plan Answer) (before after : Stored) (old new : Printed) (r : Result T Refusal)
+    → Ends plan before after old new r → end_status r ≡ status.Done → Wrote plan before after ⊎ Showed plan before old new
+ends-done plan before after old new r (wrote_all x file bytes g t o p) e =
+    inl (record { file = file; bytes = bytes; goes = g; told = t })
+ends-done plan before after old new r (showed_all x text g f p) e = inr (record { text = text; goes = g; printed = p })
+ends-done plan before after old new r (unable (refusal.Fault file first) u f p) e = absurd cc
+ends-done plan before after old new r (unable (refusal.Limit word count) u f p) e = absurd cc
+ends-done plan before after old new r (unable (refusal.Unread file) u f p) e = absurd cc
+ends-done plan before after old new r (unable (refusal.Unwritten file) u f p) e = absurd cc
+ends-done plan before after old new r (unable refusal.Unprinted u f p) e = absurd cc
+ends-done plan before after old new r (unable (refusal.NotEnabled file line tokens) u f p) e = absurd cc
+ends-done plan before after old new r (unable refusal.NoMemory u f p) e = absurd cc
+ends-done plan before after old new r (wrote_part file bytes g t rose p) e = absurd cc
+ends-done plan before after old new r (wrote_for_want file bytes g t p) e = absurd cc
+ends-done plan before after old new r (showed_part text answer is g f rose b) e = absurd cc
+ends-done plan before after old new r (showed_for_want text answer is g f b) e = absurd cc
+ends-done plan before after old new r (not_enabled file line tokens text g f p) e = absurd cc
+
+-- ---- build
+
+built : (config target : List ℕ) (before after : Stored) → Wrote (then_plan (system_plan config) (stream_written target)) before after
+    → IsBuilt config target before after
+built config target before after w =
+    let made = came-through before.files (done (Some (w.file, w.bytes)) []) (system_plan config) (stream_written target) w.goes in
+    let same : done (Some (target, system_stream made.0.1)) [] ≡ done (Some (w.file, w.bytes)) [] =
+    given-same before.files (done (Some (w.file, w.bytes)) []) (done (Some (target, system_stream made.0.1)) [])
+    (gives (done (Some (w.file, w.bytes)) [])) refl made.2 in
     let of = system-found before.files config made.0.0 made.0.1 made.1 in
-    let written = same-written target file (system_stream made.0.1) bytes same in
+    let written = same-written target w.file (system_stream made.0.1) w.bytes same in
     record {
       sources = of.0;
       system = made.0.1;
@@ -96,28 +136,81 @@ built config target file bytes before after g t =
       makes = of.3;
       found = subst (λ c. Goes before.files (system_plan config) (gives (c, made.0.1))) (sym of.2) made.1;
       written = subst (λ n. Told before.files after.files (Holds n (system_stream made.0.1))) written.0
-          (subst (λ b. Told before.files after.files (Holds file b)) written.1 t);
+          (subst (λ b. Told before.files after.files (Holds w.file b)) written.1 w.told);
+      boots = system-boots of.0 made.0.1 of.3;
     }
 
--- what is done of a build
 pub ends-built : {T : Type 0} (config target : List ℕ) (before after : Stored) (old new : Printed) (r : Result T Refusal)
     → Ends (then_plan (system_plan config) (stream_written target)) before after old new r → end_status r ≡ status.Done
     → IsBuilt config target before after
-ends-built config target before after old new r (wrote_all x file bytes g t o p) e = built config target file bytes before after g t
-ends-built config target before after old new r (showed_all x text g f p) e =
-    let made = came-through before.files (done None text) (system_plan config) (stream_written target) g in
-    let same : done (Some (target, system_stream made.0.1)) [] ≡ done None text =
-    given-same before.files (done None text) (done (Some (target, system_stream made.0.1)) []) (gives (done None text)) refl made.2 in
-    absurd cc
-ends-built config target before after old new r (unable (refusal.Fault file first) u f p) e = absurd cc
-ends-built config target before after old new r (unable (refusal.Limit word count) u f p) e = absurd cc
-ends-built config target before after old new r (unable (refusal.Unread file) u f p) e = absurd cc
-ends-built config target before after old new r (unable (refusal.Unwritten file) u f p) e = absurd cc
-ends-built config target before after old new r (unable refusal.Unprinted u f p) e = absurd cc
-ends-built config target before after old new r (unable (refusal.NotEnabled file line tokens) u f p) e = absurd cc
-ends-built config target before after old new r (unable refusal.NoMemory u f p) e = absurd cc
-ends-built config target before after old new r (wrote_part file bytes g t rose p) e = absurd cc
-ends-built config target before after old new r (wrote_for_want file bytes g t p) e = absurd cc
-ends-built config target before after old new r (showed_part text answer is g f rose b) e = absurd cc
-ends-built config target before after old new r (showed_for_want text answer is g f b) e = absurd cc
-ends-built config target before after old new r (not_enabled file line tokens text g f p) e = absurd cc
+ends-built config target before after old new r ends e =
+    elim (ends-done (then_plan (system_plan config) (stream_written target)) before after old new r ends e) [
+      | inl w ↦ built config target before after w
+      | inr s ↦ (let made = came-through before.files (done None s.text) (system_plan config) (stream_written target) s.goes in
+        let same : done (Some (target, system_stream made.0.1)) [] ≡ done None s.text =
+        given-same before.files (done None s.text) (done (Some (target, system_stream made.0.1)) []) (gives (done None s.text)) refl made.2 in
+        absurd cc)
+    ]
+
+-- ---- tree
+
+shown : (config : List ℕ) (before : Stored) (old new : Printed) → Showed (then_plan (system_plan config) tree_printed) before old new
+    → IsShown config before old new
+shown config before old new s =
+    let made = came-through before.files (done None s.text) (system_plan config) tree_printed s.goes in
+    let same : done None (system_tree made.0) ≡ done None s.text =
+    given-same before.files (done None s.text) (done None (system_tree made.0)) (gives (done None s.text)) refl made.2 in
+    let of = system-found before.files config made.0.0 made.0.1 made.1 in
+    record {
+      sources = of.0;
+      system = made.0.1;
+      of_file = of.1;
+      makes = of.3;
+      found = subst (λ c. Goes before.files (system_plan config) (gives (c, made.0.1))) (sym of.2) made.1;
+      printed = subst (λ c. new.bytes ≡ told_then (system_tree (c, made.0.1)) old.bytes) (sym of.2)
+          (s.printed ∙ ap (λ text. told_then text old.bytes) (same-text (system_tree made.0) s.text same));
+      boots = system-boots of.0 made.0.1 of.3;
+    }
+
+pub ends-shown : {T : Type 0} (config : List ℕ) (before after : Stored) (old new : Printed) (r : Result T Refusal)
+    → Ends (then_plan (system_plan config) tree_printed) before after old new r → end_status r ≡ status.Done
+    → IsShown config before old new
+ends-shown config before after old new r ends e =
+    elim (ends-done (then_plan (system_plan config) tree_printed) before after old new r ends e) [
+      | inl w ↦ (let made = came-through before.files (done (Some (w.file, w.bytes)) []) (system_plan config) tree_printed w.goes in
+        let same : done None (system_tree made.0) ≡ done (Some (w.file, w.bytes)) [] =
+        given-same before.files (done (Some (w.file, w.bytes)) []) (done None (system_tree made.0))
+        (gives (done (Some (w.file, w.bytes)) [])) refl made.2 in
+        absurd cc)
+      | inr s ↦ shown config before old new s
+    ]
+
+-- ---- one
+
+started : (source target : List ℕ) (link : ℕ) (before after : Stored)
+    → Wrote (then_plan (code_plan source) (written_from target (boot_stream link))) before after → IsStarted source target link before after
+started source target link before after w =
+    let made = came-through before.files (done (Some (w.file, w.bytes)) []) (code_plan source) (written_from target (boot_stream link)) w.goes in
+    let same : done (Some (target, boot_stream link made.0)) [] ≡ done (Some (w.file, w.bytes)) [] =
+    given-same before.files (done (Some (w.file, w.bytes)) []) (done (Some (target, boot_stream link made.0)) [])
+    (gives (done (Some (w.file, w.bytes)) [])) refl made.2 in
+    let written = same-written target w.file (boot_stream link made.0) w.bytes same in
+    record {
+      code = made.0;
+      found = made.1;
+      written = subst (λ n. Told before.files after.files (Holds n (boot_stream link made.0))) written.0
+          (subst (λ b. Told before.files after.files (Holds w.file b)) written.1 w.told);
+      boots = one-boots link made.0;
+    }
+
+pub ends-started : {T : Type 0} (source target : List ℕ) (link : ℕ) (before after : Stored) (old new : Printed) (r : Result T Refusal)
+    → Ends (then_plan (code_plan source) (written_from target (boot_stream link))) before after old new r
+    → end_status r ≡ status.Done → IsStarted source target link before after
+ends-started source target link before after old new r ends e =
+    elim (ends-done (then_plan (code_plan source) (written_from target (boot_stream link))) before after old new r ends e) [
+      | inl w ↦ started source target link before after w
+      | inr s ↦ (let made = came-through before.files (done None s.text) (code_plan source) (written_from target (boot_stream link)) s.goes in
+        let same : done (Some (target, boot_stream link made.0)) [] ≡ done None s.text =
+        given-same before.files (done None s.text) (done (Some (target, boot_stream link made.0)) []) (gives (done None s.text)) refl made.2 in
+        absurd cc)
+    ]

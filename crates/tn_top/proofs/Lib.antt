@@ -15,3 +15,4 @@ pub mod RunLaws
 pub mod WordReading
 pub mod ErrLines
 pub mod LibraryTexts
+pub mod SystemBoots

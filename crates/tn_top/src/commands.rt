@@ -3,7 +3,7 @@ ghost use Rattle.tn_text.specs.Counts.{Rose};
 ghost use Rattle.tn_io.specs.Outs.{Printed};
 ghost use Rattle.tn_text.specs.declared.faults.Fault.{Fault};
 ghost use Rattle.tn_text.specs.declared.limits.Limit.{Limit};
-ghost use Rattle.tn_top.specs.CommandWords.{Asked, build, asked, HasLink};
+ghost use Rattle.tn_top.specs.CommandWords.{Asked, one, build, tree, asked, HasLink};
 ghost use Rattle.tn_top.specs.Inner.WordReading.{IsFor, asked_by};
 ghost use Rattle.tn_top.specs.OneProcessor.{boot_stream};
 ghost use Rattle.tn_io.specs.FileLists.{Files};
@@ -11,7 +11,7 @@ ghost use Rattle.tn_top.specs.Plans.{Answer, fault, limit, refused, then_plan};
 ghost use Rattle.tn_top.specs.SystemPlans.{system_plan, stream_written, tree_printed};
 ghost use Rattle.tn_top.specs.Commands.{code_plan, assembler_plan, library_plan, written_from, plan_of, plan_asked, IsAnswer};
 ghost use Rattle.tn_top.specs.Outcomes.{Told, HasCause, NothingFailed, Unless, HasStatus, FilesAfter, PrintedAfter, Writes};
-ghost use Rattle.tn_top.specs.Builds.{IsBuilt};
+ghost use Rattle.tn_top.specs.Builds.{IsBuilt, IsShown, IsStarted};
 ghost use Rattle.tn_top.specs.ErrLines.{Tells, IsLine};
 ghost use Rattle.tn_top.specs.Inner.Ends.{Ends};
 
@@ -72,9 +72,17 @@ pub fn run<S: Store, O: Out>(
         → (S.stored store.new).opened ≡ None }
 
     // After `Done` of `build` the configuration makes a system, each image of which has code of the least
-    // sizes, and the file holds the stream that loads it.
+    // sizes, and the file holds its stream, which brings the network from power-up to rest after exactly
+    // the number of steps of its load tree, loaded, in every order of steps and whatever its memories held.
     ensures built { (config target : List ℕ) → asked (map string_bytes words.now) ≡ Some (build config target)
         → result ≡ Status.Done → IsBuilt config target (S.stored store.old) (S.stored store.new) }
+
+    // After `Done` of `tree` the stream whose length and steps are printed does so; and after `Done` of `one`
+    // that in the file does, with every processor whose memory has room for the code.
+    ensures shown { (config : List ℕ) → asked (map string_bytes words.now) ≡ Some (tree config) → result ≡ Status.Done
+        → IsShown config (S.stored store.old) (O.printed out.old) (O.printed out.new) }
+    ensures started { (source target : List ℕ) (link : ℕ) → asked (map string_bytes words.now) ≡ Some (one source target link)
+        → result ≡ Status.Done → IsStarted source target link (S.stored store.old) (S.stored store.new) }
 
     // What is printed, and what is told on the error output: the line of the status.
     ensures print { IfSome (S.stored store.old).files (λ files.

@@ -53,4 +53,4 @@ loop-k-preserved c =
     c.in_ok-push.ensures.items c.loop-k.invariant
     (of-chosen (sources c.args.config_file.now c.args.config.now c.args.pool.now c.args.shelf.now) (block_of c.block-item.result) o offered
     (IsImageOf (block_of c.block-item.result) (image_of c.in-Ok.image)) c.in-Ok.ensures.made)
-    c.in-Ok.ensures.image
+    c.in-Ok.ensures.image c.in-Ok.ensures.plain

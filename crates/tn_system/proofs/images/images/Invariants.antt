@@ -3,7 +3,7 @@ use Rattle.std.specs.List.{AllZip}
 use Rattle.tn_config.specs.Configurations.{block_of}
 use Rattle.tn_stream.specs.Images.{images_of, AreImages}
 use Rattle.tn_system.specs.Sources.{sources}
-use Rattle.tn_system.specs.Systems.{IsProcessorImage}
+use Rattle.tn_system.specs.Systems.{IsProcessorImage, IsPlainFor}
 use Rattle.tn_system.proofs.images.images.Given as goal
 
 abbrev pub invariant-loop-k : goal.invariant-loop-k
@@ -11,3 +11,4 @@ invariant-loop-k l =
     AllZip (IsProcessorImage (sources l.config_file l.config l.pool l.shelf)) (map block_of (take l.k l.config.blocks.items))
     (images_of l.images.items)
     × AreImages (images_of l.images.items)
+    × AllZip IsPlainFor (map block_of (take l.k l.config.blocks.items)) (images_of l.images.items)

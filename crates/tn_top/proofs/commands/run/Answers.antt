@@ -1,12 +1,12 @@
 use Rattle.std.proofs.Common.{◌≡◌, ◌∙◌, sym, ap, subst, map, string_bytes}
 use Rattle.std.proofs.lemmas.Option.{same_Some}
 use Rattle.std.specs.Option.{option_map}
-use Rattle.tn_top.specs.CommandWords.{build, asked}
+use Rattle.tn_top.specs.CommandWords.{one, build, tree, asked}
 use Rattle.tn_top.specs.Commands.{plan_of, plan_asked}
 use Rattle.tn_top.specs.Refusals.{end_line}
 use Rattle.tn_top.proofs.PlanLaws.{one_of_asked}
 use Rattle.tn_top.specs.Inner.Ends.{Ends}
-use Rattle.tn_top.proofs.BuildLaws.{ends-built}
+use Rattle.tn_top.proofs.BuildLaws.{ends-built, ends-shown, ends-started}
 use Rattle.tn_top.proofs.RunLaws.{runs, run_line}
 use Rattle.tn_top.proofs.WordReading.{asked-links, read-some, read-link}
 use Rattle.tn_top.proofs.commands.run.Goals as goal
@@ -83,6 +83,28 @@ returns-clause-built g c = λ config target is said.
     let what : found.what ≡ build config target = same_Some found.what (build config target) (sym found.is ∙ is) in
     let ended = c.perform-ended.ensures.ends found.what found.reads in
     ends-built config target (g.S.Store.stored c.args.store.now) (g.S.Store.stored c.perform-ended.new.store)
+    (g.O.Out.printed c.args.out.now) (g.O.Out.printed c.perform-ended.new.out) c.perform-ended.result
+    (subst (λ a. Ends (plan_of a) (g.S.Store.stored c.args.store.now) (g.S.Store.stored c.perform-ended.new.store)
+    (g.O.Out.printed c.args.out.now) (g.O.Out.printed c.perform-ended.new.out) c.perform-ended.result) what ended)
+    (sym c.status_of.ensures ∙ said)
+
+pub returns-clause-shown : goal.returns-clause-shown
+returns-clause-shown g c = λ config is said.
+    let found = read-some (asked (map string_bytes c.args.words.now)) c.in-Some.command c.in-Some.ensures in
+    let what : found.what ≡ tree config = same_Some found.what (tree config) (sym found.is ∙ is) in
+    let ended = c.perform-ended.ensures.ends found.what found.reads in
+    ends-shown config (g.S.Store.stored c.args.store.now) (g.S.Store.stored c.perform-ended.new.store)
+    (g.O.Out.printed c.args.out.now) (g.O.Out.printed c.perform-ended.new.out) c.perform-ended.result
+    (subst (λ a. Ends (plan_of a) (g.S.Store.stored c.args.store.now) (g.S.Store.stored c.perform-ended.new.store)
+    (g.O.Out.printed c.args.out.now) (g.O.Out.printed c.perform-ended.new.out) c.perform-ended.result) what ended)
+    (sym c.status_of.ensures ∙ said)
+
+pub returns-clause-started : goal.returns-clause-started
+returns-clause-started g c = λ source target link is said.
+    let found = read-some (asked (map string_bytes c.args.words.now)) c.in-Some.command c.in-Some.ensures in
+    let what : found.what ≡ one source target link = same_Some found.what (one source target link) (sym found.is ∙ is) in
+    let ended = c.perform-ended.ensures.ends found.what found.reads in
+    ends-started source target link (g.S.Store.stored c.args.store.now) (g.S.Store.stored c.perform-ended.new.store)
     (g.O.Out.printed c.args.out.now) (g.O.Out.printed c.perform-ended.new.out) c.perform-ended.result
     (subst (λ a. Ends (plan_of a) (g.S.Store.stored c.args.store.now) (g.S.Store.stored c.perform-ended.new.store)
     (g.O.Out.printed c.args.out.now) (g.O.Out.printed c.perform-ended.new.out) c.perform-ended.result) what ended)

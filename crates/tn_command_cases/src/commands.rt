@@ -1,8 +1,7 @@
-use crate::stores::{decimals, empty_store};
 use std::alloc::Global;
 use std::mem;
 use tn_io::{MemOut, MemStore, Store};
-use tn_tables::{Case, Line, Report, Stop, said};
+use tn_tables::{Case, Line, Report, Stop, decimals, held, said};
 use tn_top::{Status, code, run};
 
 /// What commands run on: files, the writes to the output and to the error output that fail in the
@@ -88,14 +87,6 @@ fn put_file(
     }
 }
 
-/// What a file holds.
-pub fn held(alloc: Global, file: Option<&[u8]>) -> Result<Vec<u8>, Stop> {
-    match file {
-        Some(bytes) => Ok(Vec::from_slice(alloc, bytes)?),
-        None => said(alloc, "no file"),
-    }
-}
-
 /// Runs words, and gives the exit status.
 fn status(alloc: Global, device: &mut Device, words: &[&str]) -> Result<Vec<u8>, Stop> {
     let words = owned(alloc, words)?;
@@ -139,4 +130,10 @@ fn device_of(alloc: Global, case: &Case<'_>) -> Result<Device, Stop> {
         out: Vec::new(alloc),
         err: Vec::new(alloc),
     })
+}
+
+/// A store without files.
+#[tactic(auto, unfolding(tn_io::specs::FileLists::HasDistinctNames))]
+fn empty_store(alloc: Global, failing: Vec<u64>) -> MemStore {
+    MemStore::new(Vec::new(alloc), failing)
 }

@@ -1,0 +1,5 @@
+pub mod Arguments
+pub mod Lines
+pub mod Said
+pub mod ScheduleLaws
+pub mod ReadLoop
