@@ -54,3 +54,4 @@ pub mod Starting
 pub mod WalkLaws
 pub mod SettleLaws
 pub mod LoadTestLaws
+pub mod PicksMade

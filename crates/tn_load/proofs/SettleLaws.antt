@@ -1,11 +1,11 @@
 -- Steps one after the other.
-use Rattle.std.proofs.Common.{◌≡◌, ℕ, zero, suc, ◌+◌, ◌<◌, ◌≤◌, Bool, true, false, refl, sym, ap, subst, ◌∙◌, arith}
+use Rattle.std.proofs.Common.{◌≡◌, ◌⊎◌, inl, inr, ℕ, zero, suc, ◌+◌, ◌<◌, ◌≤◌, Bool, true, false, refl, sym, ap, subst, ◌∙◌, arith}
 use Rattle.std.specs.Prelude.{IsTrue}
 use Rattle.tn_load.specs.Settles.{walked, IsSettled}
 
 module _ {S : Type 0} (next : S → S) where
   -- one step more
-  pub walked-more : (n : ℕ) (s : S) → walked next (n + 1) s ≡ next (walked next n s)
+  pub walked-more : (n : ℕ) (s : S) → walked next (suc n) s ≡ next (walked next n s)
   unfolding walked
   walked-more zero s = refl
   walked-more (suc n) s = walked-more n (next s)
@@ -15,7 +15,9 @@ module _ {S : Type 0} (next : S → S) where
   walked-none s = refl
 
   pub walked-next : (n : ℕ) (old now new : S) → now ≡ walked next n old → new ≡ next now → new ≡ walked next (n + 1) old
-  walked-next n old now new is after = after ∙ ap next is ∙ sym (walked-more n old)
+  walked-next n old now new is after =
+      let more : suc n ≡ n + 1 = omega arith in
+      after ∙ ap next is ∙ sym (walked-more n old) ∙ ap (λ k. walked next k old) more
 
 -- what a loop holds to
 pub record IsGoing {S : Type 0} (AtRest : S → Type 0) (next : S → S) (most : ℕ) (old now : S) (steps : ℕ) : Type 0 where

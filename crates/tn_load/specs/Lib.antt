@@ -9,5 +9,5 @@ pub mod Targets
 pub mod Boots
 pub mod Settles
 pub mod NetWalks
-pub mod Targets
+pub mod SettledNets
 pub mod Inner
