@@ -1,15 +1,17 @@
 -- What the tests of a loaded network tell.
-use Rattle.std.proofs.Common.{◌≡◌, ◌⊎◌, inl, inr, ℕ, zero, suc, ◌+◌, ◌*◌, ◌/◌, ◌%◌, ◌<◌, ◌≤◌, Bool, true, false, not, ◌&&◌, List, [], ◌∷◌, length, take}
+use Rattle.std.proofs.Common.{◌≡◌, ◌⊎◌, inl, inr, ℕ, zero, suc, ◌+◌, ◌-◌, ◌*◌, ◌/◌, ◌%◌, ◌<◌, ◌≤◌, Bool, true, false, not, ◌&&◌, List, [], ◌∷◌, length, take, drop}
 use Rattle.std.proofs.Common.{map, Option, Some, None, Result, Ok, Err, refl, sym, ap, subst, ◌∙◌, arith}
 use Rattle.std.specs.Prelude.{◌==◌, is_none, slice_get, slice_index_or, All, IsTrue}
 use Rattle.std.specs.List.{list_all}
 use Rattle.std.specs.Str.{bytes_eq}
+use Rattle.std.proofs.lemmas.Bool.{cases_lt}
 use Rattle.std.proofs.lemmas.Bool.Decides.{nat_tests}
+use Rattle.std.proofs.lemmas.List.{length-drop, take_all}
 use Rattle.std.proofs.lemmas.List.Elements.{All-cons, All-head, All-tail}
 use Rattle.std.proofs.lemmas.Slice.Eq.{bytes_eq-Decides}
-use Rattle.tn_word.specs.Words.{not_process}
+use Rattle.tn_word.specs.Words.{most_neg, not_process}
 use Rattle.tn_mem.specs.declared.touches.Touch.{Touch}
-use Rattle.tn_mem.specs.Memories.{load}
+use Rattle.tn_mem.specs.Memories.{block, load}
 use Rattle.tn_cpu.specs.declared.registers.Reg.{Reg}
 use Rattle.tn_cpu.specs.declared.registers.Reg.TheVariants.{Undefined, Word}
 use Rattle.tn_node.specs.Engines.{engine_of}
@@ -29,6 +31,10 @@ and-true : (a b : Bool) → a ≡ true → b ≡ true → (a && b) ≡ true
 and-true true true ha hb = refl
 and-true true false ha hb = cc
 and-true false b ha hb = cc
+
+and-false : (a b : Bool) → b ≡ false → (a && b) ≡ false
+and-false true b e = e
+and-false false b e = refl
 
 same-number : (x y : ℕ) → x ≡ y → x == y ≡ true
 same-number x y e = grind (arith, nat_tests)
@@ -74,6 +80,28 @@ no-bytes (b ∷ bytes) e = absurd (let n = number-same (length (b ∷ bytes)) 0 
 
 -- ---- pieces in a memory
 
+-- bytes that reach behind a memory do not stand there
+pub placed-behind : (m bytes : List ℕ) (base : ℕ) → length m - (base - most_neg) < length bytes
+    → bytes_eq (block m base (length bytes)) bytes ≡ false
+unfolding block
+placed-behind m bytes base behind = go (bytes_eq (block m base (length bytes)) bytes) refl
+  where
+    go : (b : Bool) → bytes_eq (block m base (length bytes)) bytes ≡ b → b ≡ false
+    go false e = refl
+    go true e = absurd (
+      let size : length (drop (base - most_neg) m) ≡ length m - (base - most_neg) = length-drop (base - most_neg) m in
+      let whole : take (length bytes) (drop (base - most_neg) m) ≡ drop (base - most_neg) m =
+      take_all (length bytes) (drop (base - most_neg) m) (omega (arith, size, behind)) in
+      let same : take (length bytes) (drop (base - most_neg) m) ≡ bytes = (bytes_eq-Decides _ _).0 e in
+      let count = ap length (sym whole ∙ same) in
+      omega (arith, size, behind, count))
+
+-- no bytes stand anywhere
+pub placed-none : (m bytes : List ℕ) (base : ℕ) → length bytes ≡ 0 → bytes_eq (block m base (length bytes)) bytes ≡ true
+unfolding block
+placed-none m [] base none = refl
+placed-none m (b ∷ bytes) base none = absurd (omega (arith, none))
+
 pieces-told : (m : List ℕ) (pieces : List PlacedBytes) → list_all (λ piece. is_placed m piece) pieces ≡ true → All (StandsIn m) pieces
 pieces-told m [] e = λ k d low. absurd (omega (arith, low))
 pieces-told m (piece ∷ pieces) e =
@@ -87,32 +115,36 @@ pieces-are m (piece ∷ pieces) e =
     (pieces-are m pieces (All-tail (StandsIn m) piece pieces e))
 
 -- those of the first elements of a list, one more
-pub passes-more : {X Y : Type 0} (test : Y → Bool) (f : X → Y) (xs : List X) (i : ℕ) (x : X) → i < length xs → x ≡ slice_index_or xs i x
-    → list_all test (map f (take i xs)) ≡ true → test (f x) ≡ true → list_all test (map f (take (i + 1) xs)) ≡ true
-passes-more {X = X} {Y = Y} test f xs i x low at before here =
+pub passes-more : {X Y Z : Type 0} (test : Z → Bool) (f : Y → Z) (g : X → Y) (xs : List X) (i : ℕ) (x : X) → i < length xs
+    → x ≡ slice_index_or xs i x → list_all test (map f (map g (take i xs))) ≡ true → test (f (g x)) ≡ true
+    → list_all test (map f (map g (take (i + 1) xs))) ≡ true
+passes-more {X = X} {Y = Y} {Z = Z} test f g xs i x low at before here =
     let next : suc i ≡ i + 1 = omega arith in
-    subst (λ k. list_all test (map f (take k xs)) ≡ true) next (go xs i low at before)
+    subst (λ (k : ℕ). list_all test (map f (map g (take k xs))) ≡ true) next (go xs i low at before)
   where
-    go : (xs : List X) (i : ℕ) → i < length xs → x ≡ slice_index_or xs i x → list_all test (map f (take i xs)) ≡ true
-        → list_all test (map f (take (suc i) xs)) ≡ true
-    go [] i low at before = absurd (omega (arith, low))
-    go (y ∷ xs) zero low at before = and-true (test (f y)) true (subst (λ (z : X). test (f z) ≡ true) at here) refl
-    go (y ∷ xs) (suc i) low at before =
-        let parts = both (test (f y)) (list_all test (map f (take i xs))) before in
-        and-true (test (f y)) (list_all test (map f (take (suc i) xs))) parts.0 (go xs i (omega (arith, low)) at parts.1)
+    go : (ys : List X) (k : ℕ) → k < length ys → x ≡ slice_index_or ys k x → list_all test (map f (map g (take k ys))) ≡ true
+        → list_all test (map f (map g (take (suc k) ys))) ≡ true
+    go [] k low at before = absurd (omega (arith, low))
+    go (y ∷ ys) zero low at before = and-true (test (f (g y))) true (subst (λ (z : X). test (f (g z)) ≡ true) at here) refl
+    go (y ∷ ys) (suc k) low at before =
+        let parts = both (test (f (g y))) (list_all test (map f (map g (take k ys)))) before in
+        and-true (test (f (g y))) (list_all test (map f (map g (take (suc k) ys)))) parts.0 (go ys k (omega (arith, low)) at parts.1)
+
+-- all of them
+pub passes-all : {X Y Z : Type 0} (test : Z → Bool) (f : Y → Z) (g : X → Y) (xs : List X) (i : ℕ) → length xs ≤ i
+    → list_all test (map f (map g (take i xs))) ≡ true → list_all test (map f (map g xs)) ≡ true
+passes-all {X = X} test f g xs i all before =
+    subst (λ (ys : List X). list_all test (map f (map g ys)) ≡ true) (take_all i xs all) before
 
 -- one that fails
-pub fails-one : {X Y : Type 0} (test : Y → Bool) (f : X → Y) (xs : List X) (i : ℕ) (x : X) → i < length xs → x ≡ slice_index_or xs i x
-    → test (f x) ≡ false → list_all test (map f xs) ≡ false
-fails-one test f [] i x low at here = absurd (omega (arith, low))
-fails-one {X = X} test f (y ∷ xs) zero x low at here =
-    let e : test (f y) ≡ false = subst (λ (z : X). test (f z) ≡ false) at here in rw e refl
-fails-one {X = X} {Y = Y} test f (y ∷ xs) (suc i) x low at here =
-    and-false (test (f y)) (list_all test (map f xs)) (fails-one test f xs i x (omega (arith, low)) at here)
-  where
-    and-false : (a b : Bool) → b ≡ false → (a && b) ≡ false
-    and-false true b e = e
-    and-false false b e = refl
+pub fails-one : {X Y Z : Type 0} (test : Z → Bool) (f : Y → Z) (g : X → Y) (xs : List X) (i : ℕ) (x : X) → i < length xs
+    → x ≡ slice_index_or xs i x → test (f (g x)) ≡ false → list_all test (map f (map g xs)) ≡ false
+fails-one test f g [] i x low at here = absurd (omega (arith, low))
+fails-one {X = X} test f g (y ∷ xs) zero x low at here =
+    let e : test (f (g y)) ≡ false = subst (λ (z : X). test (f (g z)) ≡ false) at here in
+    rw e refl
+fails-one test f g (y ∷ xs) (suc i) x low at here =
+    and-false (test (f (g y))) (list_all test (map f (map g xs))) (fails-one test f g xs i x (omega (arith, low)) at here)
 
 -- ---- one processor
 
@@ -200,7 +232,7 @@ all-each (m ∷ nodes) (u ∷ targets) all (suc p) n t here there = all-each nod
 pub each-more : (nodes : List (NodeState (List ℕ))) (targets : List Target) (p : ℕ) (n : NodeState (List ℕ)) (t : Target)
     → slice_get nodes p ≡ Some n → slice_get targets p ≡ Some t → is_loaded_node t n ≡ true → Each nodes targets p
     → Each nodes targets (p + 1)
-each-more nodes targets p n t here there loaded each = λ q m u low at to. elim (cases_lt q low) [
+each-more nodes targets p n t here there loaded each = λ q m u low at to. elim (cases_more q low) [
   | inl small ↦ each q m u small at to
   | inr same ↦
       let first : n ≡ m = let e : Some n ≡ Some m = sym here ∙ ap (λ k. slice_get nodes k) (sym same) ∙ at in cc in
@@ -209,8 +241,8 @@ each-more nodes targets p n t here there loaded each = λ q m u low at to. elim 
       (subst (λ (y : Target). IsLoadedNode (λ m. m) n y) second (node-told t n loaded))
 ]
   where
-    cases_lt : (q : ℕ) → q < p + 1 → (q < p) ⊎ (q ≡ p)
-    cases_lt q low = grind arith
+    cases_more : (q : ℕ) → q < p + 1 → (q < p) ⊎ (q ≡ p)
+    cases_more q low = grind arith
 
 -- one that is not loaded
 pub not-all : (nodes : List (NodeState (List ℕ))) (targets : List Target) (p : ℕ) (n : NodeState (List ℕ)) (t : Target)
@@ -219,14 +251,25 @@ pub not-all : (nodes : List (NodeState (List ℕ))) (targets : List Target) (p :
 not-all nodes targets p n t here there bad all =
     let clash : false ≡ true = sym bad ∙ node-is t n (all-each nodes targets all p n t here there) in cc
 
--- the element of a list that is mapped
-pub get-map : {X Y : Type 0} (f : X → Y) (xs : List X) (i : ℕ) (x : X) → i < length xs → x ≡ slice_index_or xs i x
-    → slice_get (map f xs) i ≡ Some (f x)
-get-map f [] i x low at = absurd (omega (arith, low))
-get-map f (y ∷ xs) zero x low at = ap (λ z. Some (f z)) (sym at)
-get-map f (y ∷ xs) (suc i) x low at = get-map f xs i x (omega (arith, low)) at
+-- the element of a list that is mapped twice
+pub get-map : {X Y Z : Type 0} (f : Y → Z) (g : X → Y) (xs : List X) (i : ℕ) (x : X) → i < length xs → x ≡ slice_index_or xs i x
+    → slice_get (map f (map g xs)) i ≡ Some (f (g x))
+get-map f g [] i x low at = absurd (omega (arith, low))
+get-map f g (y ∷ xs) zero x low at = ap (λ z. Some (f (g z))) (sym at)
+get-map f g (y ∷ xs) (suc i) x low at = get-map f g xs i x (omega (arith, low)) at
+
+pub length-maps : {X Y Z : Type 0} (f : Y → Z) (g : X → Y) (xs : List X) → length (map f (map g xs)) ≡ length xs
+length-maps f g [] = refl
+length-maps f g (x ∷ xs) = ap suc (length-maps f g xs)
 
 -- ---- latches
+
+-- what holds of the first, and of one more
+pub one-more : (P : ℕ → Type 0) (p : ℕ) → ((q : ℕ) → q < p → P q) → P p → (q : ℕ) → q < p + 1 → P q
+one-more P p before here q low = elim (cases_lt q p) [
+  | inl small ↦ before q small
+  | inr large ↦ subst P (let same : p ≡ q = omega (arith, low, large) in same) here
+]
 
 none-at : (latches : List (Option ℕ)) → All (λ byte. byte ≡ None) latches → (k : ℕ) → slice_index_or latches k None ≡ None
 none-at [] all k = refl

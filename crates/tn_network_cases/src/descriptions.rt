@@ -1,6 +1,6 @@
 ghost use Rattle.std.specs.Prelude.{◌≡◌, ◌≤◌, length, IsTrue, All, IfOk};
 ghost use Rattle.tn_net.specs.WholeTrees.{IsWholeTree};
-ghost use Rattle.tn_stream.specs.Images.{segments_of, image_of, images_of, IsSegment, IsImage, AreImages};
+ghost use Rattle.tn_stream.specs.Images.{segment_of, segments_of, image_of, images_of, IsSegment, IsImage, AreImages};
 
 use std::alloc::Global;
 use tn_stream::{Image, Segment};
@@ -101,8 +101,12 @@ fn are_segments(segments: &[Segment]) -> bool
 {
     match segments {
         [] => true,
-        [segment, rest @ ..] => {
-            1 <= segment.bytes.len() && segment.bytes.len() <= 1_048_576 && are_segments(rest)
-        }
+        [segment, rest @ ..] => is_segment(segment) && are_segments(rest),
     }
+}
+
+fn is_segment(segment: &Segment) -> bool
+    ensures { IsTrue result → IsSegment (segment_of segment.now) }
+{
+    1 <= segment.bytes.len() && segment.bytes.len() <= 1_048_576
 }
