@@ -23,7 +23,7 @@ use Rattle.tn_network.specs.NodeOps.{stands_at}
 use Rattle.tn_network.specs.Loads.{PlacedBytes, Target, StandsIn, IsLoadedNode, AreLoadedNodes, IsLoaded}
 use Rattle.tn_network.proofs.WireLaws.{both}
 use Rattle.tn_load.specs.Inner.LoadTests.{is_done, is_empty_at, holds_word, has_pointers, has_stack, are_shut, gave, has_no_timers}
-use Rattle.tn_load.specs.Inner.LoadTests.{is_placed, is_loaded_node}
+use Rattle.tn_load.specs.Inner.LoadTests.{is_placed, is_started, is_loaded_node}
 
 -- ---- tests
 
@@ -96,11 +96,29 @@ placed-behind m bytes base behind = go (bytes_eq (block m base (length bytes)) b
       let count = ap length (sym whole ∙ same) in
       omega (arith, size, behind, count))
 
--- no bytes stand anywhere
-pub placed-none : (m bytes : List ℕ) (base : ℕ) → length bytes ≡ 0 → bytes_eq (block m base (length bytes)) bytes ≡ true
+-- no bytes stand anywhere; all others do not stand behind a memory
+placed-none : (m : List ℕ) (base : ℕ) → bytes_eq (block m base 0) [] ≡ true
 unfolding block
-placed-none m [] base none = refl
-placed-none m (b ∷ bytes) base none = absurd (omega (arith, none))
+placed-none m base = refl
+
+pub placed-past : (m bytes : List ℕ) (base at : ℕ) (empty : Bool) → at ≡ base - most_neg
+    → (length m < at) ⊎ (length m - at < length bytes) → empty ≡ (length bytes == 0)
+    → empty ≡ bytes_eq (block m base (length bytes)) bytes
+placed-past m [] base at empty is past none = none ∙ sym (placed-none m base)
+placed-past m (b ∷ bytes) base at empty is past none =
+    let some : (length (b ∷ bytes) == 0) ≡ false = grind (arith, nat_tests) in
+    none ∙ some ∙ sym (placed-behind m (b ∷ bytes) base (elim past [
+      | inl far ↦ omega (arith, is, far)
+      | inr behind ↦ omega (arith, is, behind)
+    ]))
+
+-- where they stand
+pub placed-here : (m bytes : List ℕ) (base at : ℕ) → at ≡ base - most_neg
+    → bytes_eq (take (at + length bytes - at) (drop at m)) bytes ≡ bytes_eq (block m base (length bytes)) bytes
+unfolding block
+placed-here m bytes base at is =
+    let count : at + length bytes - at ≡ length bytes = omega arith in
+    ap (λ k. bytes_eq (take k (drop at m)) bytes) count ∙ ap (λ k. bytes_eq (take (length bytes) (drop k m)) bytes) is
 
 pieces-told : (m : List ℕ) (pieces : List PlacedBytes) → list_all (λ piece. is_placed m piece) pieces ≡ true → All (StandsIn m) pieces
 pieces-told m [] e = λ k d low. absurd (omega (arith, low))
@@ -151,10 +169,10 @@ fails-one test f g (y ∷ xs) (suc i) x low at here =
 module _ (t : Target) (n : NodeState (List ℕ)) where
   pub node-told : is_loaded_node t n ≡ true → IsLoadedNode (λ m. m) n t
   node-told e =
-      let one = both (has_pointers t n) _ e in
+      let whole = both (is_started t n) (list_all (λ piece. is_placed n.cpu.memory piece) t.pieces) e in
+      let one = both (has_pointers t n) _ whole.0 in
       let two = both (has_stack t n) _ one.1 in
-      let three = both (are_shut n) _ two.1 in
-      let four = both (has_no_timers n.cpu.memory) _ three.1 in
+      let three = both (are_shut n) (has_no_timers n.cpu.memory) two.1 in
       let p0 = both (stands_at t.entry n) _ one.0 in
       let p1 = both (n.cpu.wptr == t.wptr) _ p0.1 in
       let p2 = both (holds_word not_process n.cpu.front) _ p1.1 in
@@ -168,7 +186,7 @@ module _ (t : Target) (n : NodeState (List ℕ)) where
       let e1 = both (is_none (engine_of n.inputs 1)) _ l1.0 in
       let e2 = both (is_none (engine_of n.inputs 2)) _ l2.0 in
       let e3 = both (is_none (engine_of n.inputs 3)) _ l2.1 in
-      let timers = both (gave not_process (load n.cpu.memory 0x80000024)) _ four.0 in
+      let timers = both (gave not_process (load n.cpu.memory 0x80000024)) _ three.1 in
       let quiet : IsQuiet n = (
         (none-true _ e0.0, none-true _ e1.0, none-true _ e2.0, none-true _ e3.0),
         (none-true _ e0.1, none-true _ e1.1, none-true _ e2.1, none-true _ e3.1),
@@ -185,22 +203,27 @@ module _ (t : Target) (n : NodeState (List ℕ)) where
         quiet = quiet;
         high_timer = gave-told _ _ timers.0;
         low_timer = gave-told _ _ timers.1;
-        whole = pieces-told n.cpu.memory t.pieces four.1;
+        whole = pieces-told n.cpu.memory t.pieces whole.1;
       }
 
   pub node-is : IsLoadedNode (λ m. m) n t → is_loaded_node t n ≡ true
   node-is h =
       let closed_inputs = h.quiet.0 in
       let closed_outputs = h.quiet.1 in
-      and-true _ _ (and-true _ _ h.stands (and-true _ _ (same-number _ _ h.wptr) (and-true _ _ (word-is _ _ h.queue)
-      (and-true _ _ (not-false _ h.error) (not-false _ h.halt)))))
-      (and-true _ _ (and-true _ _ (word-is _ _ h.a) (and-true _ _ (word-is _ _ h.b) (word-is _ _ h.c)))
-      (and-true _ _ (and-true _ _ (and-true _ _ (none-is _ closed_inputs.0) (none-is _ closed_outputs.0))
+      let pointers : has_pointers t n ≡ true = and-true _ _ h.stands (and-true _ _ (same-number _ _ h.wptr)
+      (and-true _ _ (word-is _ _ h.queue) (and-true _ _ (not-false _ h.error) (not-false _ h.halt)))) in
+      let stack : has_stack t n ≡ true = and-true _ _ (word-is _ _ h.a) (and-true _ _ (word-is _ _ h.b) (word-is _ _ h.c)) in
+      let shut : are_shut n ≡ true = and-true _ _ (and-true _ _ (none-is _ closed_inputs.0) (none-is _ closed_outputs.0))
       (and-true _ _ (and-true _ _ (none-is _ closed_inputs.1) (none-is _ closed_outputs.1))
       (and-true _ _ (and-true _ _ (none-is _ closed_inputs.2) (none-is _ closed_outputs.2))
-      (and-true _ _ (none-is _ closed_inputs.3) (none-is _ closed_outputs.3)))))
-      (and-true _ _ (and-true _ _ (gave-is _ _ h.high_timer) (gave-is _ _ h.low_timer))
-      (pieces-are n.cpu.memory t.pieces h.whole))))
+      (and-true _ _ (none-is _ closed_inputs.3) (none-is _ closed_outputs.3)))) in
+      let timers : has_no_timers n.cpu.memory ≡ true = and-true _ _ (gave-is _ _ h.high_timer) (gave-is _ _ h.low_timer) in
+      let started : is_started t n ≡ true =
+      and-true (has_pointers t n) (has_stack t n && (are_shut n && has_no_timers n.cpu.memory)) pointers
+      (and-true (has_stack t n) (are_shut n && has_no_timers n.cpu.memory) stack
+      (and-true (are_shut n) (has_no_timers n.cpu.memory) shut timers)) in
+      and-true (is_started t n) (list_all (λ piece. is_placed n.cpu.memory piece) t.pieces) started
+      (pieces-are n.cpu.memory t.pieces h.whole)
 
 -- ---- all processors
 

@@ -114,7 +114,7 @@ made-more : (back : Bool) (most : ℕ) (n new : NetState) (steps : ℕ) (pick : 
     → WereMade n new (suc steps) (net_settled back (suc most) n)
 made-more back most n new steps pick first made =
     subst (λ (ps : List Pick). WereMade n new (suc steps) ps) (sym (settled-more back most n (Some pick) first)) (record {
-      count = let rest = made.count in omega (arith, rest);
+      count = ap suc made.count;
       enabled = (first-enabled back n pick first, made.enabled);
       state = made.state;
       network = made.network;
@@ -183,8 +183,8 @@ shown images wanted most old new steps rested ps m live bound enough short told 
   where
     whole : length ps ≡ wanted → IsShown new images wanted steps rested
     whole same = record {
-      steps = sym m.count ∙ same;
-      rested = told ((rests old new steps ps m).1 ((live.rest ps m.enabled).1 same));
+      made = sym m.count ∙ same;
+      rests = told ((rests old new steps ps m).1 ((live.rest ps m.enabled).1 same));
       loaded = subst (λ (s : BoardState (NodeState (List ℕ))). IsLoaded (λ memory. memory) s (targets_of images)) (sym m.state)
       (live.loaded ps m.enabled same);
     }

@@ -36,8 +36,8 @@ MakesPicks =
 
 -- it rests, after exactly so many steps, with these images loaded
 pub record IsShown (new : NetState) (images : List ImageBytes) (wanted steps : ℕ) (rested : Bool) : Type 0 where
-  pub steps : steps ≡ wanted
-  pub rested : rested ≡ true
+  pub made : steps ≡ wanted
+  pub rests : rested ≡ true
   pub loaded : IsLoaded (λ memory. memory) new.board.state (targets_of images)
 
 -- A network that some bytes boot in so many steps shows it in both orders: settled by as many steps or more from

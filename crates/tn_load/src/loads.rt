@@ -1,4 +1,4 @@
-ghost use Rattle.std.specs.Prelude.{◌≡◌, ◌<◌, ◌↔◌, IsTrue, All, None, length};
+ghost use Rattle.std.specs.Prelude.{◌≡◌, ◌<◌, ◌↔◌, ◌&&◌, IsTrue, All, None, length};
 ghost use Rattle.std.specs.List.{list_all};
 ghost use Rattle.std.specs.Str.{bytes_eq};
 ghost use Rattle.tn_mem.specs.Memories.{block};
@@ -6,8 +6,8 @@ ghost use Rattle.tn_network.specs.NodeOps.{is_running, stands_at};
 ghost use Rattle.tn_network.specs.Loads.{AreLoadedNodes, IsLoaded};
 ghost use Rattle.tn_stream.specs.Images.{segments_of, image_of, images_of};
 ghost use Rattle.tn_load.specs.Targets.{placed_all, target_of, targets_of};
-ghost use Rattle.tn_load.specs.Inner.LoadTests.{HasLatches, is_done, is_empty_at, holds_word, has_pointers, has_stack};
-ghost use Rattle.tn_load.specs.Inner.LoadTests.{is_shut, are_shut, gave, has_no_timers, is_placed, is_loaded_node};
+ghost use Rattle.tn_load.specs.Inner.LoadTests.{HasLatches, is_done, is_empty_at, holds_word, has_pointers};
+ghost use Rattle.tn_load.specs.Inner.LoadTests.{is_shut, are_shut, gave, has_no_timers, is_placed, is_started, is_loaded_node};
 
 use tn_cpu::Reg;
 use tn_mem::{Memory, Space, Touch};
@@ -91,12 +91,14 @@ fn are_loaded(board: &Board<Memory>, images: &[Image]) -> bool
 fn is_loaded(node: &Node<Memory>, image: &Image) -> bool
     ensures { result ≡ is_loaded_node (target_of (image_of image.now)) node.now }
 {
-    let memory = node.cpu().memory();
-    has_pointers(node, image)
-        && has_stack(node)
-        && are_shut(node)
-        && has_no_timers(memory)
-        && are_placed(memory, image.segments.as_slice())
+    is_started(node, image) && are_placed(node.cpu().memory(), image.segments.as_slice())
+}
+
+/// Whether a processor is as the loader leaves it, whatever stands in its segments.
+fn is_started(node: &Node<Memory>, image: &Image) -> bool
+    ensures { result ≡ is_started (target_of (image_of image.now)) node.now }
+{
+    has_pointers(node, image) && has_stack(node) && are_shut(node) && has_no_timers(node.cpu().memory())
 }
 
 /// Whether a processor stands at its entry, with its workspace pointer, an empty queue and no error.
@@ -137,7 +139,7 @@ fn is_running(mode: Mode) -> bool
 
 /// Whether the three registers hold what the loader leaves in them.
 fn has_stack(node: &Node<Memory>) -> bool
-    ensures { (t : _) → result ≡ has_stack (target_of t) node.now }
+    ensures { result ≡ (holds_word 0x80000131 node.now.cpu.a && (holds_word 0x80000200 node.now.cpu.b && holds_word 0 node.now.cpu.c)) }
 {
     let registers = node.cpu().view();
     holds_word(ENTRY_A, registers.a)

@@ -68,8 +68,9 @@ has_no_timers m = gave not_process (load m 0x80000024) && gave not_process (load
 abbrev pub is_placed : List ℕ → PlacedBytes → Bool
 is_placed m piece = bytes_eq (block m piece.base (length piece.bytes)) piece.bytes
 
--- a processor is loaded
+-- a processor is as the loader leaves it, whatever stands in its segments, and is loaded
+abbrev pub is_started : Target → NodeState (List ℕ) → Bool
+is_started t n = has_pointers t n && (has_stack t n && (are_shut n && has_no_timers n.cpu.memory))
+
 abbrev pub is_loaded_node : Target → NodeState (List ℕ) → Bool
-is_loaded_node t n =
-    has_pointers t n
-    && (has_stack t n && (are_shut n && (has_no_timers n.cpu.memory && list_all (λ piece. is_placed n.cpu.memory piece) t.pieces)))
+is_loaded_node t n = is_started t n && list_all (λ piece. is_placed n.cpu.memory piece) t.pieces
