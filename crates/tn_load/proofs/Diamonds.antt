@@ -1,5 +1,6 @@
 -- Two enabled picks are the same act, or neither minds the other.
-use Rattle.std.proofs.Common.{◌≡◌, ◌≢◌, ℕ, zero, suc, ◌+◌, ◌<◌, ◌==◌, ◌⊎◌, inl, inr, Bool, true, false, List, ◌∷◌, Option, Some, None, refl, sym, ap, subst, ◌∙◌, arith}
+use Rattle.std.proofs.Common.{◌≡◌, ◌≢◌, ℕ, zero, suc, ◌+◌, ◌<◌, ◌==◌, ◌⊎◌, inl, inr, Bool, true, false, List, ◌∷◌, Option, Some, None}
+use Rattle.std.proofs.Common.{refl, sym, ap, subst, ◌∙◌, arith}
 use Rattle.std.specs.Prelude.{slice_get, slice_set, is_some, if◌then◌else◌, nat_lt, ◌&&◌, ◌^◌, not}
 use Rattle.std.proofs.lemmas.Bool.{cases_eq}
 use Rattle.std.proofs.lemmas.Bool.Decides.{nat_tests}
@@ -61,7 +62,8 @@ far_hit Nothing q = 0
 far_hit Host q = 0
 far_hit (Link p l) q = hit p q
 
-advanced_at-hit : {N : Type 0} (far : Far) (plan : Plan N) (q : ℕ) → (advanced_at far plan).courses q ≡ behinds (far_hit far q) (plan.courses q)
+advanced_at-hit : {N : Type 0} (far : Far) (plan : Plan N) (q : ℕ) → (advanced_at far plan).courses q ≡ behinds (far_hit far q)
+    (plan.courses q)
 unfolding behinds far_hit
 advanced_at-hit Nothing plan q = refl
 advanced_at-hit Host plan q = refl
@@ -91,7 +93,8 @@ pub courses-swap : {N : Type 0} (network : NetworkState) (one two : Pick) (plan 
 courses-swap network one two plan q =
     after-hits network two (plan_after network one plan) q ∙ ap (λ c. behinds (hits network two q) c) (after-hits network one plan q)
     ∙ behinds-swap (hits network two q) (hits network one q) (plan.courses q)
-    ∙ ap (λ c. behinds (hits network one q) c) (sym (after-hits network two plan q)) ∙ sym (after-hits network one (plan_after network two plan) q)
+    ∙ ap (λ c. behinds (hits network one q) c) (sym (after-hits network two plan q)) ∙ sym
+        (after-hits network one (plan_after network two plan) q)
 
 at-sends : {N : Type 0} (far : Far) (plan : Plan N) → (advanced_at far plan).sends ≡ plan.sends
 at-sends Nothing plan = refl
@@ -116,7 +119,8 @@ changed-alike f g nodes p n at alike =
     changed-set f nodes p n at ∙ ap (λ m. slice_set nodes p m) alike ∙ sym (changed-set g nodes p n at)
 
 module _ {N : Type 0} (ops : NodeOps N) (network : NetworkState) (holds : HoldState) (Q : ℕ → N → List Act → Type 0)
-    (missing : Far → List ℕ) (kept : List ℕ) (plan : Plan N) (s : BoardState N) (u : IsUnderWay ops network holds Q missing kept plan s) where
+    (missing : Far → List ℕ) (kept : List ℕ) (plan : Plan N) (s : BoardState N) (u : IsUnderWay ops network holds Q missing kept plan s)
+        where
   -- ---- the pick that an act of a processor is
 
   acks_pick : Far → Pick
@@ -292,7 +296,8 @@ module _ {N : Type 0} (ops : NodeOps N) (network : NetworkState) (holds : HoldSt
     abbrev Result : Pick → Type 0
     Result second = Alike first second ⊎ (enabled ops network holds t second ≡ true)
 
-    moved : (p : ℕ) (act : Act) → new.courses p ≡ plan.courses p → Goes ops holds Q p (plan.courses p) act → Goes ops holds Q p (new.courses p) act
+    moved : (p : ℕ) (act : Act) → new.courses p ≡ plan.courses p → Goes ops holds Q p (plan.courses p) act → Goes ops holds Q p
+        (new.courses p) act
     moved p act same g = subst (λ c. Goes ops holds Q p c act) (sym same) g
 
     word : (clock : ℕ) → nat_lt clock (2 ^ 32) ≡ true → clock < 2 ^ 32
@@ -333,7 +338,8 @@ module _ {N : Type 0} (ops : NodeOps N) (network : NetworkState) (holds : HoldSt
           | inr keeps ↦ elim (touch first first_on network.root) [
             | inl same ↦ inr (host_take-enabled ops network holds Q missing kept new t v h.byte (plan_after network HostTake plan).keeps
                 (keeps ∙ h.is)
-                (v.full Host tt ∙ ap (λ c. is_waiting network.root_link (acts_left c)) same ∙ sym (u.full Host tt) ∙ ap (λ o. is_some o) h.held))
+                (v.full Host tt ∙ ap (λ c. is_waiting network.root_link (acts_left c)) same ∙ sym (u.full Host tt) ∙ ap (λ o. is_some o)
+                    h.held))
             | inr touches ↦ inl (same-touch first HostTake network.root touches (own-root h))
           ]
         ]
@@ -349,7 +355,8 @@ module _ {N : Type 0} (ops : NodeOps N) (network : NetworkState) (holds : HoldSt
     stays (Send p l) on =
         let h : Sending ops network holds Q missing kept plan s u p l = send-goes ops network holds Q missing kept plan s u p l on in
         elim (touch first first_on p) [
-          | inl same ↦ inr (send-enabled ops network holds Q missing kept new t v p l h.byte h.inside (moved p (Sends l h.byte) same h.goes))
+          | inl same ↦ inr (send-enabled ops network holds Q missing kept new t v p l h.byte h.inside
+              (moved p (Sends l h.byte) same h.goes))
           | inr touches ↦ inl (same-touch first (Send p l) p touches (own-send p l h))
         ]
     stays (Take p l) on =
@@ -388,7 +395,8 @@ module _ {N : Type 0} (ops : NodeOps N) (network : NetworkState) (holds : HoldSt
   sends-after (Send p l) x = refl
   sends-after (Take p l) x = at-sends (far_at network p l) (record x { courses = advanced p x.courses })
 
-  sends-swap : (one two : Pick) → (plan_after network two (plan_after network one plan)).sends ≡ (plan_after network one (plan_after network two plan)).sends
+  sends-swap : (one two : Pick) → (plan_after network two (plan_after network one plan)).sends ≡
+      (plan_after network one (plan_after network two plan)).sends
   sends-swap one two =
       sends-after two (plan_after network one plan) ∙ ap (λ bs. dropped (drops-sent two) bs) (sends-after one plan)
       ∙ dropped-swap (drops-sent two) (drops-sent one) plan.sends
@@ -409,7 +417,8 @@ module _ {N : Type 0} (ops : NodeOps N) (network : NetworkState) (holds : HoldSt
   keeps-after (Send p l) x = refl
   keeps-after (Take p l) x = at-keeps (far_at network p l) (record x { courses = advanced p x.courses })
 
-  keeps-swap : (one two : Pick) → (plan_after network two (plan_after network one plan)).keeps ≡ (plan_after network one (plan_after network two plan)).keeps
+  keeps-swap : (one two : Pick) → (plan_after network two (plan_after network one plan)).keeps ≡
+      (plan_after network one (plan_after network two plan)).keeps
   keeps-swap one two =
       keeps-after two (plan_after network one plan) ∙ ap (λ bs. dropped (drops-kept two) bs) (keeps-after one plan)
       ∙ dropped-swap (drops-kept two) (drops-kept one) plan.keeps
@@ -468,7 +477,8 @@ module _ {N : Type 0} (ops : NodeOps N) (network : NetworkState) (holds : HoldSt
       let h : Taking ops network holds Q missing kept plan s u p l = take-goes ops network holds Q missing kept plan s u p l on in
       far-told (far_at network p l) b h.sender is
 
-  marked-swap : (a b : Option Bool) (x : Bool) → ((c d : Bool) → a ≡ Some c → b ≡ Some d → c ≡ d) → marked a (marked b x) ≡ marked b (marked a x)
+  marked-swap : (a b : Option Bool) (x : Bool) → ((c d : Bool) → a ≡ Some c → b ≡ Some d → c ≡ d) → marked a (marked b x) ≡ marked b
+      (marked a x)
   unfolding marked
   marked-swap None b x agree = refl
   marked-swap (Some c) None x agree = refl

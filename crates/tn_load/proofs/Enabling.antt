@@ -1,5 +1,6 @@
 -- What is enabled in a network under way, as the acts that are left tell it.
-use Rattle.std.proofs.Common.{◌≡◌, ◌≢◌, ℕ, suc, ◌+◌, ◌<◌, ◌≤◌, Bool, true, false, List, [], ◌∷◌, length, Some, None, refl, sym, ap, subst, ◌∙◌, arith, length-append}
+use Rattle.std.proofs.Common.{◌≡◌, ◌≢◌, ℕ, suc, ◌+◌, ◌<◌, ◌≤◌, Bool, true, false, List, [], ◌∷◌, length, Some, None, refl, sym, ap, subst}
+use Rattle.std.proofs.Common.{◌∙◌, arith, length-append}
 use Rattle.std.specs.Prelude.{slice_get, is_some, nat_lt, ◌&&◌, ◌^◌, not}
 use Rattle.std.proofs.lemmas.Bool.Decides.{nat_tests}
 use Rattle.tn_net.specs.declared.networks.Far.{Far}
@@ -21,7 +22,8 @@ use Rattle.tn_load.proofs.OnePick.{both, joined}
 use Rattle.tn_load.proofs.Heads.{send-here}
 
 module _ {N : Type 0} (ops : NodeOps N) (network : NetworkState) (holds : HoldState) (Q : ℕ → N → List Act → Type 0)
-    (missing : Far → List ℕ) (kept : List ℕ) (plan : Plan N) (s : BoardState N) (u : IsUnderWay ops network holds Q missing kept plan s) where
+    (missing : Far → List ℕ) (kept : List ℕ) (plan : Plan N) (s : BoardState N) (u : IsUnderWay ops network holds Q missing kept plan s)
+        where
   low_test : (l : ℕ) → l < 4 → nat_lt l 4 ≡ true
   low_test l h = grind (arith, nat_tests)
 
@@ -29,7 +31,8 @@ module _ {N : Type 0} (ops : NodeOps N) (network : NetworkState) (holds : HoldSt
       → enabled ops network holds s (Proc p slice clock) ≡ true
   step-enabled p clock slice inside small g =
       let at : slice_get s.nodes p ≡ Some (now (plan.courses p)) = u.nodes p inside in
-      let two = both (ops.runs (now (plan.courses p))) (not (holds.held && ops.stands (entry_of holds p) (now (plan.courses p)))) g.does.0.may in
+      let two = both (ops.runs (now (plan.courses p))) (not (holds.held && ops.stands (entry_of holds p) (now (plan.courses p))))
+          g.does.0.may in
       let word : nat_lt clock (2 ^ 32) ≡ true = word_test clock small in
       joined (nat_lt clock (2 ^ 32) && at_node false ops.runs s.nodes p)
       (not (holds.held && at_node false (ops.stands (entry_of holds p)) s.nodes p))
@@ -54,16 +57,19 @@ module _ {N : Type 0} (ops : NodeOps N) (network : NetworkState) (holds : HoldSt
       let some = send-here ops holds Q p plan.courses l byte g in
       cc in
       joined (nat_lt l 4) (is_some (offered ops s.nodes p l) && is_wired (far_at network p l)) (low_test l g.does.0.low)
-      (joined (is_some (offered ops s.nodes p l)) (is_wired (far_at network p l)) (ap (λ o. is_some o) out) (wired-far (far_at network p l) wire))
+      (joined (is_some (offered ops s.nodes p l)) (is_wired (far_at network p l)) (ap (λ o. is_some o) out)
+          (wired-far (far_at network p l) wire))
 
-  pub take-enabled : (p l byte : ℕ) → p < length network.sizes → l ≡ (plan.courses p).boot → Goes ops holds Q p (plan.courses p) (Takes byte)
+  pub take-enabled : (p l byte : ℕ) → p < length network.sizes → l ≡ (plan.courses p).boot → Goes ops holds Q p (plan.courses p)
+      (Takes byte)
       → is_some (latch_at s.latches p l) ≡ true → enabled ops network holds s (Take p l) ≡ true
   take-enabled p l byte inside boots g full =
       let at : slice_get s.nodes p ≡ Some (now (plan.courses p)) = u.nodes p inside in
       let low : l < 4 = subst (λ k. k < 4) (sym boots) (u.courses p inside).boot in
       let wants : ops.wants l (now (plan.courses p)) ≡ true = ap (λ k. ops.wants k (now (plan.courses p))) boots ∙ g.does.0.wants in
       joined (nat_lt l 4) (at_node false (ops.wants l) s.nodes p && is_some (latch_at s.latches p l)) (low_test l low)
-      (joined (at_node false (ops.wants l) s.nodes p) (is_some (latch_at s.latches p l)) (ap (λ o. given false (ops.wants l) o) at ∙ wants) full)
+      (joined (at_node false (ops.wants l) s.nodes p) (is_some (latch_at s.latches p l))
+          (ap (λ o. given false (ops.wants l) o) at ∙ wants) full)
 
   pub host_send-enabled : (byte : ℕ) (rest : List ℕ) → plan.sends ≡ byte ∷ rest → plan.waits ≡ false
       → enabled ops network holds s HostSend ≡ true

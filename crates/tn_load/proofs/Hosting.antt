@@ -26,7 +26,8 @@ use Rattle.tn_load.proofs.Heads.{acknowledge-free, acknowledge-else}
 use Rattle.tn_load.proofs.OnePick.{fits, room-for, both, nodes-advanced, courses-advanced}
 
 module _ {N : Type 0} (ops : NodeOps N) (network : NetworkState) (holds : HoldState) (Q : ℕ → N → List Act → Type 0)
-    (missing : Far → List ℕ) (kept : List ℕ) (plan : Plan N) (s : BoardState N) (u : IsUnderWay ops network holds Q missing kept plan s) where
+    (missing : Far → List ℕ) (kept : List ℕ) (plan : Plan N) (s : BoardState N) (u : IsUnderWay ops network holds Q missing kept plan s)
+        where
   next-first : (bytes : List ℕ) (byte : ℕ) → next_byte bytes ≡ Some byte → bytes ≡ byte ∷ other_bytes bytes
   next-first [] byte is = cc
   next-first (b ∷ bytes) byte is = cc
@@ -194,7 +195,8 @@ module _ {N : Type 0} (ops : NodeOps N) (network : NetworkState) (holds : HoldSt
     }
 
     all_taken : (e : Far) → IsWireEnd network e → Fits network missing take_new take_t e
-    all_taken = fits-taken network u.pairing missing plan take_new s take_t (fits ops network holds Q missing kept plan s u) Host k.byte taken
+    all_taken = fits-taken network u.pairing missing plan take_new s take_t (fits ops network holds Q missing kept plan s u) Host k.byte
+        taken
 
     pub under_way-host_take : IsUnderWay ops network holds Q missing kept (plan_after network HostTake plan) (step ops network HostTake s)
     under_way-host_take = record {

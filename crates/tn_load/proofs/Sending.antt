@@ -20,7 +20,8 @@ use Rattle.tn_load.proofs.Heads.{send-takes, send-here, send-else, send-free, se
 use Rattle.tn_load.proofs.OnePick.{fits, room-for, Sending, send-goes, nodes-advanced, courses-advanced}
 
 module _ {N : Type 0} (ops : NodeOps N) (network : NetworkState) (holds : HoldState) (Q : ℕ → N → List Act → Type 0)
-    (missing : Far → List ℕ) (kept : List ℕ) (plan : Plan N) (s : BoardState N) (u : IsUnderWay ops network holds Q missing kept plan s) where
+    (missing : Far → List ℕ) (kept : List ℕ) (plan : Plan N) (s : BoardState N) (u : IsUnderWay ops network holds Q missing kept plan s)
+        where
   module _ (p l : ℕ) (on : enabled ops network holds s (Send p l) ≡ true) where
     h : Sending ops network holds Q missing kept plan s u p l
     h = send-goes ops network holds Q missing kept plan s u p l on
@@ -67,7 +68,8 @@ module _ {N : Type 0} (ops : NodeOps N) (network : NetworkState) (holds : HoldSt
     here : (far : Far) → IsWireEnd network far → far ≢ Nothing → latch_of (with_far far) far ≡ Some h.byte
     here Nothing place some = absurd (some refl)
     here Host place some = h.out
-    here (Link q m) place some = latch-set_same s.latches q m (offered ops s.nodes p l) (room-for ops network holds Q missing kept plan s u q m place) ∙ h.out
+    here (Link q m) place some = latch-set_same s.latches q m (offered ops s.nodes p l)
+        (room-for ops network holds Q missing kept plan s u q m place) ∙ h.out
 
     other : (far : Far) → IsWireEnd network far → (e : Far) → IsWireEnd network e → e ≢ far → latch_of (with_far far) e ≡ latch_of s e
     other Nothing there e place apart = same_latches e
@@ -82,7 +84,8 @@ module _ {N : Type 0} (ops : NodeOps N) (network : NetworkState) (holds : HoldSt
     other (Link q m) there Nothing place apart = refl
     other (Link q m) there Host place apart = refl
     other (Link q m) there (Link k j) place apart =
-        latch-set_other s.latches q m k j (offered ops s.nodes p l) there.link place.link (λ e. apart (ap (λ x. Link x j) e.0 ∙ ap (Link q) e.1))
+        latch-set_other s.latches q m k j (offered ops s.nodes p l) there.link place.link
+            (λ e. apart (ap (λ x. Link x j) e.0 ∙ ap (Link q) e.1))
 
     comes : (e : Far) → incoming new e ≡ incoming plan e
     comes Nothing = refl
@@ -123,11 +126,14 @@ module _ {N : Type 0} (ops : NodeOps N) (network : NetworkState) (holds : HoldSt
       latches = sizes (far_at network p l);
       nodes = nodes-advanced (ops.send l) s.nodes plan.courses (length network.sizes) p h.inside u.nodes h.goes.does.2;
       courses = courses-advanced ops network holds Q plan.courses (length network.sizes) p u.courses h.goes.course;
-      bytes = λ e place. (fits-sent network u.pairing missing plan new s t (fits ops network holds Q missing kept plan s u) (Link p l) h.byte sent e place).bytes;
-      full = λ e place. (fits-sent network u.pairing missing plan new s t (fits ops network holds Q missing kept plan s u) (Link p l) h.byte sent e place).full;
+      bytes = λ e place. (fits-sent network u.pairing missing plan new s t (fits ops network holds Q missing kept plan s u) (Link p l)
+          h.byte sent e place).bytes;
+      full = λ e place. (fits-sent network u.pairing missing plan new s t (fits ops network holds Q missing kept plan s u) (Link p l)
+          h.byte sent e place).full;
       wired = λ q m end none. send-else ops holds Q p plan.courses l h.byte h.goes q m (λ e. wire (ap (other_end network) (sym e) ∙ none))
           ∙ u.wired q m end none;
-      quiet = λ q m end none. send-waits_else ops holds Q p plan.courses l h.byte h.goes q m (λ e. wire (ap (other_end network) (sym e) ∙ none))
+      quiet = λ q m end none. send-waits_else ops holds Q p plan.courses l h.byte h.goes q m
+          (λ e. wire (ap (other_end network) (sym e) ∙ none))
           ∙ u.quiet q m end none;
       sends = left (far_at network p l) ∙ u.sends;
       waits = waits (far_at network p l) ∙ u.waits;

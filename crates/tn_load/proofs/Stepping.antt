@@ -20,7 +20,8 @@ use Rattle.tn_load.proofs.Heads.{step-takes, step-sends, step-waits}
 use Rattle.tn_load.proofs.OnePick.{fits, step-goes, nodes-advanced, courses-advanced}
 
 module _ {N : Type 0} (ops : NodeOps N) (network : NetworkState) (holds : HoldState) (Q : ℕ → N → List Act → Type 0)
-    (missing : Far → List ℕ) (kept : List ℕ) (plan : Plan N) (s : BoardState N) (u : IsUnderWay ops network holds Q missing kept plan s) where
+    (missing : Far → List ℕ) (kept : List ℕ) (plan : Plan N) (s : BoardState N) (u : IsUnderWay ops network holds Q missing kept plan s)
+        where
   module _ (p clock : ℕ) (slice : Bool) (on : enabled ops network holds s (Proc p slice clock) ≡ true) where
     inside : p < length network.sizes
     inside = (step-goes ops network holds Q missing kept plan s u p clock slice on).0
@@ -48,10 +49,12 @@ module _ {N : Type 0} (ops : NodeOps N) (network : NetworkState) (holds : HoldSt
 
     all : (e : Far) → IsWireEnd network e → Fits network missing step_new (step ops network (Proc p slice clock) s) e
     all e place =
-        fits-same network u.pairing missing plan step_new s (step ops network (Proc p slice clock) s) (fits ops network holds Q missing kept plan s u) e place (comes e)
+        fits-same network u.pairing missing plan step_new s (step ops network (Proc p slice clock) s)
+            (fits ops network holds Q missing kept plan s u) e place (comes e)
         (goes (other_end network e)) (waits (other_end network e)) refl
 
-    pub under_way-step : IsUnderWay ops network holds Q missing kept (plan_after network (Proc p slice clock) plan) (step ops network (Proc p slice clock) s)
+    pub under_way-step : IsUnderWay ops network holds Q missing kept (plan_after network (Proc p slice clock) plan)
+        (step ops network (Proc p slice clock) s)
     under_way-step = record {
       pairing = u.pairing;
       count = length-changed (ops.run p slice clock) s.nodes p ∙ u.count;

@@ -25,7 +25,8 @@ use Rattle.tn_load.proofs.Heads.{acknowledge-free, acknowledge-else}
 use Rattle.tn_load.proofs.OnePick.{fits, within, room-for, both, below_four, nodes-advanced, courses-advanced}
 
 module _ {N : Type 0} (ops : NodeOps N) (network : NetworkState) (holds : HoldState) (Q : ℕ → N → List Act → Type 0)
-    (missing : Far → List ℕ) (kept : List ℕ) (plan : Plan N) (s : BoardState N) (u : IsUnderWay ops network holds Q missing kept plan s) where
+    (missing : Far → List ℕ) (kept : List ℕ) (plan : Plan N) (s : BoardState N) (u : IsUnderWay ops network holds Q missing kept plan s)
+        where
   -- the byte that is taken, and that the sender waits
   pub record Taking (p l : ℕ) : Type 0 where
     pub inside : p < length network.sizes
@@ -85,7 +86,8 @@ module _ {N : Type 0} (ops : NodeOps N) (network : NetworkState) (holds : HoldSt
         let byte : unwrap_or (latch_at s.latches p l) 0 ≡ h.byte = ap (λ o. unwrap_or o 0) h.held in
         let same : ops.take l (unwrap_or (latch_at s.latches p l) 0) (now (plan.courses p)) ≡ now (behind (plan.courses p)) =
         ap (λ b. ops.take l b (now (plan.courses p))) byte ∙ ap (λ k. ops.take k h.byte (now (plan.courses p))) h.boots ∙ h.goes.does.1 in
-        nodes-advanced (ops.take l (unwrap_or (latch_at s.latches p l) 0)) s.nodes plan.courses (length network.sizes) p h.inside u.nodes same
+        nodes-advanced (ops.take l (unwrap_or (latch_at s.latches p l) 0)) s.nodes plan.courses (length network.sizes) p h.inside u.nodes
+            same
 
     courses_are : (q : ℕ) → q < length network.sizes → IsCourse ops holds Q q (once.courses q)
     courses_are = courses-advanced ops network holds Q plan.courses (length network.sizes) p u.courses h.goes.course
@@ -146,7 +148,8 @@ module _ {N : Type 0} (ops : NodeOps N) (network : NetworkState) (holds : HoldSt
       host_goes Host = refl
       host_goes (Link q m) = once_goes (Link q m)
 
-      host_taken : Taken network u.pairing missing plan from_host s (board Host) (fits ops network holds Q missing kept plan s u) (Link p l) h.byte
+      host_taken : Taken network u.pairing missing plan from_host s (board Host) (fits ops network holds Q missing kept plan s u)
+          (Link p l) h.byte
       host_taken = record {
         place = place_of;
         comes = take-here ops holds Q p plan.courses l h.byte h.boots h.goes;
@@ -161,7 +164,8 @@ module _ {N : Type 0} (ops : NodeOps N) (network : NetworkState) (holds : HoldSt
 
       host_fits : (e : Far) → IsWireEnd network e → Fits network missing from_host (board Host) e
       host_fits =
-          fits-taken network u.pairing missing plan from_host s (board Host) (fits ops network holds Q missing kept plan s u) (Link p l) h.byte
+          fits-taken network u.pairing missing plan from_host s (board Host) (fits ops network holds Q missing kept plan s u) (Link p l)
+              h.byte
           host_taken
 
       by_host : IsUnderWay ops network holds Q missing kept from_host (board Host)
@@ -215,7 +219,8 @@ module _ {N : Type 0} (ops : NodeOps N) (network : NetworkState) (holds : HoldSt
       other_goes Host = refl
       other_goes (Link k j) = acknowledge-sends ops holds Q q once.courses m g k j
 
-      other_taken : Taken network u.pairing missing plan from_other s (board (Link q m)) (fits ops network holds Q missing kept plan s u) (Link p l) h.byte
+      other_taken : Taken network u.pairing missing plan from_other s (board (Link q m)) (fits ops network holds Q missing kept plan s u)
+          (Link p l) h.byte
       other_taken = record {
         place = place_of;
         comes = take-here ops holds Q p plan.courses l h.byte h.boots h.goes ∙ ap (λ bs. h.byte ∷ bs) (sym (other_comes (Link p l)));
@@ -230,7 +235,8 @@ module _ {N : Type 0} (ops : NodeOps N) (network : NetworkState) (holds : HoldSt
 
       other_fits : (e : Far) → IsWireEnd network e → Fits network missing from_other (board (Link q m)) e
       other_fits =
-          fits-taken network u.pairing missing plan from_other s (board (Link q m)) (fits ops network holds Q missing kept plan s u) (Link p l)
+          fits-taken network u.pairing missing plan from_other s (board (Link q m)) (fits ops network holds Q missing kept plan s u)
+              (Link p l)
           h.byte other_taken
 
       by_other : IsUnderWay ops network holds Q missing kept from_other (board (Link q m))
@@ -243,7 +249,8 @@ module _ {N : Type 0} (ops : NodeOps N) (network : NetworkState) (holds : HoldSt
         bytes = λ e place. (other_fits e place).bytes;
         full = λ e place. (other_fits e place).full;
         wired = λ k j end none. other_goes (Link k j) ∙ once_goes (Link k j) ∙ u.wired k j end none;
-        quiet = λ k j end none. other_waits_else (Link k j) (λ e. wire (ap (other_end network) (sym (e ∙ is)) ∙ none)) ∙ u.quiet k j end none;
+        quiet = λ k j end none. other_waits_else (Link k j) (λ e. wire (ap (other_end network) (sym (e ∙ is)) ∙ none)) ∙ u.quiet k j end
+            none;
         sends = u.sends;
         waits = u.waits;
         keeps = u.keeps;
