@@ -132,13 +132,13 @@ module _ {N : Type 0} (ops : NodeOps N) (network : NetworkState) (holds : HoldSt
   sends-nothing none =
       let root = u.pairing.root in
       let start : [] ≡ bytes_in (latch_at s.latches network.root network.root_link) ++
-          (outgoing plan Host ++ missing (Link network.root network.root_link)) =
+      (outgoing plan Host ++ missing (Link network.root network.root_link)) =
       sym (taken-nothing (plan.courses network.root) network.root_link (none network.root root.processor))
       ∙ u.bytes (Link network.root network.root_link) root
       ∙ ap (λ f. bytes_in (latch_at s.latches network.root network.root_link) ++
-          (outgoing plan f ++ missing (Link network.root network.root_link))) u.pairing.hosted in
+      (outgoing plan f ++ missing (Link network.root network.root_link))) u.pairing.hosted in
       no_first plan.sends (missing (Link network.root network.root_link))
-          (nothing_first (latch_at s.latches network.root network.root_link) _ start)
+      (nothing_first (latch_at s.latches network.root network.root_link) _ start)
 
   keeps-nothing : Empty → plan.keeps ≡ []
   unfolding sends_of
@@ -215,14 +215,14 @@ module _ {N : Type 0} (ops : NodeOps N) (network : NetworkState) (holds : HoldSt
   nodes-ended none =
       ends-are plan.courses s.nodes 0 count u.count
       (λ k h. u.nodes k h ∙ ap Some (now-end (plan.courses k) (none k h)) ∙ ap (λ j. Some (plan.courses j).end)
-          (let e : k ≡ 0 + k = omega arith in e))
+      (let e : k ≡ 0 + k = omega arith in e))
 
   pub ended : picks_left count plan ≡ 0 → s ≡ ended_board count kept plan
   ended zero_left =
       let none : Empty = empty zero_left in
       same_board s (ended_board count kept plan) (nodes-ended none) (latches-none none)
       (same_host s.host (ended_board count kept plan).host (u.sends ∙ sends-nothing none) (u.waits ∙ no_waits none)
-          (empty_latch none Host tt)
+      (empty_latch none Host tt)
       (sym (append-nil s.host.kept) ∙ ap (λ bs. s.host.kept ++ bs) (sym (keeps-nothing none)) ∙ u.keeps))
 
 -- ---- picks in any order
@@ -276,7 +276,7 @@ module _ {N : Type 0} (ops : NodeOps N) (network : NetworkState) (holds : HoldSt
   pub one_end : length picks ≡ all → after ops network s picks ≡ ended_board (length network.sizes) kept plan
   one_end full =
       ended ops network holds Q missing kept rest (after ops network s picks) gone.0 (rooted-behind network picks plan rooted) whole
-          (none_left full)
+      (none_left full)
       ∙ ap (λ nodes. record (ended_board (length network.sizes) kept plan) { nodes = nodes })
       (ends-same 0 (length network.sizes) rest.courses plan.courses (end-behind network picks plan))
 
@@ -292,7 +292,7 @@ module _ {N : Type 0} (ops : NodeOps N) (network : NetworkState) (holds : HoldSt
       by_number zero none still = let is = gone.1 in omega (arith, is, none)
       by_number (suc n) more still =
           let some = goes_on ops network holds Q missing kept rest (after ops network s picks) gone.0
-              (rooted-behind network picks plan rooted) whole
+          (rooted-behind network picks plan rooted) whole
           (λ none. omega (arith, more, none)) in
           let off : enabled ops network holds (after ops network s picks) some.0 ≡ false = still some.0 in
           absurd (let bad : true ≡ false = sym some.1 ∙ off in cc)

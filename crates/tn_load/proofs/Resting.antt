@@ -36,7 +36,7 @@ takes-left : {N : Type 0} (c : Course N) (l byte : ℕ) (bytes : List ℕ) → t
 unfolding takes_of
 takes-left c l byte bytes is none =
     let empty : (if l == c.boot then takes_of [] else []) ≡ byte ∷ bytes = sym (ap (λ a. if l == c.boot then takes_of a else []) none) ∙
-        is in
+    is in
     go (l == c.boot) empty
   where
     go : (test : Bool) → (if test then [] else []) ≡ byte ∷ bytes → ⊥

@@ -70,7 +70,7 @@ module _ {N : Type 0} (ops : NodeOps N) (network : NetworkState) (holds : HoldSt
       same_latch (latch_of t e) (latch_of s e)
       (append_cancel_right (bytes_in (latch_of t e)) (bytes_in (latch_of s e)) (outgoing plan (other_end network e) ++ missing e)
       (ap (λ bs. bytes_in (latch_of t e) ++ (bs ++ missing e)) (sym (goes (other_end network e))) ∙ sym (v.bytes e place) ∙ comes e ∙
-          u.bytes e place))
+      u.bytes e place))
 
   nodes : t.nodes ≡ s.nodes
   nodes =

@@ -386,10 +386,10 @@ arguments_read names keyword.Power ts = power_read names ts
 arguments_read names keyword.Step ts = step_read names ts
 arguments_read names keyword.Send ts =
     named_two names keyword.Send link_at (λ p l. act.Pick (pick.Send p l)) (λ ts. refl) (λ n. refl) refl refl (λ ts p l h. h)
-        (λ p l. refl) ts
+    (λ p l. refl) ts
 arguments_read names keyword.Take ts =
     named_two names keyword.Take link_at (λ p l. act.Pick (pick.Take p l)) (λ ts. refl) (λ n. refl) refl refl (λ ts p l h. h)
-        (λ p l. refl) ts
+    (λ p l. refl) ts
 arguments_read names keyword.HostSend ts =
     none_read names keyword.HostSend (statement.Does (act.Pick pick.HostSend)) ts refl refl refl refl (λ e. e) refl
 arguments_read names keyword.HostTake ts =

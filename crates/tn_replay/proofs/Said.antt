@@ -140,7 +140,7 @@ taken_acts s [] = sym (append-nil s.acts)
 taken_acts s ((n, statement.Power byte error halt) ∷ said) = taken_acts (take (at_line n s) (statement.Power byte error halt)) said
 taken_acts s ((n, statement.Does a) ∷ said) =
     taken_acts (take (at_line n s) (statement.Does a)) said ∙ append_assoc s.acts (record { line = n; act = a } ∷ [])
-        (filter_map act_in said)
+    (filter_map act_in said)
 
 -- `power` stands no more behind a first statement
 taken_power : (s : ReaderState) (said : List (ℕ × Statement)) → AllStand false said → (taken s said).power ≡ s.power

@@ -31,6 +31,8 @@ returns-in-Err-Fault-clause-only c = λ s is. ap faulted
 pub returns-in-Err-Fault-clause-fault : goal.returns-in-Err-Fault-clause-fault
 returns-in-Err-Fault-clause-fault c = λ fault e.
     let short : length (lines c.args.text.now) ≤ LINE_LIMIT = omega (arith, c.if-count.false, c.count_lines-count.ensures) in
-    let same : c.in-Err-Fault.fault ≡ fault = cc in
-    (short, schedule_fault c.args.names.now c.args.text.now fault
-        (sym (told c.in-Err-Fault.field-0 c.in-Err-Fault.fault c.in-Err-Fault.field-0-is c.in-Err-Fault.ensures) ∙ ap Err same))
+    let same : c.in-Err-Fault.fault ≡ fault = cc in (
+      short,
+      schedule_fault c.args.names.now c.args.text.now fault
+          (sym (told c.in-Err-Fault.field-0 c.in-Err-Fault.fault c.in-Err-Fault.field-0-is c.in-Err-Fault.ensures) ∙ ap Err same),
+    )
