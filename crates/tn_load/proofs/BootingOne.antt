@@ -1,10 +1,9 @@
 -- The loading theorem for a single processor.
-use Rattle.std.proofs.Common.{◌≡◌, ◌⊎◌, inl, inr, ℕ, zero, suc, ◌<◌, List, [], ◌∷◌, length, refl, sym, ap, subst, arith}
+use Rattle.std.proofs.Common.{◌≡◌, ◌⊎◌, inl, inr, ℕ, zero, suc, ◌<◌, List, [], ◌∷◌, length, refl, sym, subst, arith}
 use Rattle.tn_net.specs.Networks.{NetworkState, IsPairing}
 use Rattle.tn_net.specs.Paths.{Leads, IsPath, IsLess, path_at}
 use Rattle.tn_net.specs.Trees.{IsLoadTree, node_at, children_below}
 use Rattle.tn_net.specs.WholeTrees.{IsWholeTree}
-use Rattle.tn_stream.specs.Images.{ImageBytes}
 use Rattle.tn_stream.specs.Streams.{stream}
 use Rattle.tn_stream.specs.Lengths.{load_steps}
 use Rattle.tn_stream.proofs.SingleTrees.{single-branch, single-whole}

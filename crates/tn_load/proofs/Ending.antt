@@ -1,5 +1,6 @@
 -- The end: where no pick is left, all is done, and the state is one and the same.
-use Rattle.std.proofs.Common.{◌≡◌, ◌≢◌, ℕ, zero, suc, ◌+◌, ◌*◌, ◌/◌, ◌%◌, ◌<◌, ◌≤◌, ◌==◌, ◌⊎◌, inl, inr, Bool, true, false, List, [], ◌∷◌, ◌++◌, length, replicate, Option, Some, None, refl, sym, ap, subst, ◌∙◌, arith, append-nil}
+use Rattle.std.proofs.Common.{◌≡◌, ◌≢◌, ℕ, zero, suc, ◌+◌, ◌*◌, ◌/◌, ◌%◌, ◌<◌, ◌≤◌, ◌==◌, ◌⊎◌, inl, inr, Bool, true, false, List, [], ◌∷◌}
+use Rattle.std.proofs.Common.{◌++◌, length, replicate, Option, Some, None, refl, sym, ap, subst, ◌∙◌, arith, append-nil}
 use Rattle.std.specs.Prelude.{is_some, if◌then◌else◌, slice_get, slice_index_or, ◌↔◌}
 use Rattle.std.proofs.lemmas.Bool.{cases_eq}
 use Rattle.std.proofs.lemmas.Option.{same_Some}
@@ -14,7 +15,8 @@ use Rattle.tn_network.specs.Holds.{HoldState, enabled}
 use Rattle.tn_network.specs.PickLists.{AreEnabled, after, AtRest}
 use Rattle.tn_load.specs.Acts.{Act}
 use Rattle.tn_load.specs.LoneRuns.{takes_of, sends_of, is_waiting, weight}
-use Rattle.tn_load.specs.Plans.{Course, Moment, Plan, now, first_node, acts_of, acts_left, behind, plan_after, plan_behind, picks_left, sum_below}
+use Rattle.tn_load.specs.Plans.{Course, Moment, Plan, now, first_node, acts_of, acts_left, behind, plan_after, plan_behind, picks_left}
+use Rattle.tn_load.specs.Plans.{sum_below}
 use Rattle.tn_load.specs.Shares.{IsWireEnd, other_end, taken_by, incoming, outgoing, waiting, latch_of, bytes_in}
 use Rattle.tn_load.specs.UnderWay.{IsUnderWay}
 use Rattle.tn_load.specs.Keep.{IsRooted, IsWhole, ends_from, ended_board}
@@ -129,11 +131,14 @@ module _ {N : Type 0} (ops : NodeOps N) (network : NetworkState) (holds : HoldSt
   sends-nothing : Empty → plan.sends ≡ []
   sends-nothing none =
       let root = u.pairing.root in
-      let start : [] ≡ bytes_in (latch_at s.latches network.root network.root_link) ++ (outgoing plan Host ++ missing (Link network.root network.root_link)) =
+      let start : [] ≡ bytes_in (latch_at s.latches network.root network.root_link) ++
+      (outgoing plan Host ++ missing (Link network.root network.root_link)) =
       sym (taken-nothing (plan.courses network.root) network.root_link (none network.root root.processor))
       ∙ u.bytes (Link network.root network.root_link) root
-      ∙ ap (λ f. bytes_in (latch_at s.latches network.root network.root_link) ++ (outgoing plan f ++ missing (Link network.root network.root_link))) u.pairing.hosted in
-      no_first plan.sends (missing (Link network.root network.root_link)) (nothing_first (latch_at s.latches network.root network.root_link) _ start)
+      ∙ ap (λ f. bytes_in (latch_at s.latches network.root network.root_link) ++
+      (outgoing plan f ++ missing (Link network.root network.root_link))) u.pairing.hosted in
+      no_first plan.sends (missing (Link network.root network.root_link))
+      (nothing_first (latch_at s.latches network.root network.root_link) _ start)
 
   keeps-nothing : Empty → plan.keeps ≡ []
   unfolding sends_of
@@ -209,19 +214,22 @@ module _ {N : Type 0} (ops : NodeOps N) (network : NetworkState) (holds : HoldSt
   nodes-ended : Empty → s.nodes ≡ ends_from 0 count plan.courses
   nodes-ended none =
       ends-are plan.courses s.nodes 0 count u.count
-      (λ k h. u.nodes k h ∙ ap Some (now-end (plan.courses k) (none k h)) ∙ ap (λ j. Some (plan.courses j).end) (let e : k ≡ 0 + k = omega arith in e))
+      (λ k h. u.nodes k h ∙ ap Some (now-end (plan.courses k) (none k h)) ∙ ap (λ j. Some (plan.courses j).end)
+      (let e : k ≡ 0 + k = omega arith in e))
 
   pub ended : picks_left count plan ≡ 0 → s ≡ ended_board count kept plan
   ended zero_left =
       let none : Empty = empty zero_left in
       same_board s (ended_board count kept plan) (nodes-ended none) (latches-none none)
-      (same_host s.host (ended_board count kept plan).host (u.sends ∙ sends-nothing none) (u.waits ∙ no_waits none) (empty_latch none Host tt)
+      (same_host s.host (ended_board count kept plan).host (u.sends ∙ sends-nothing none) (u.waits ∙ no_waits none)
+      (empty_latch none Host tt)
       (sym (append-nil s.host.kept) ∙ ap (λ bs. s.host.kept ++ bs) (sym (keeps-nothing none)) ∙ u.keeps))
 
 -- ---- picks in any order
 
 -- the same rank, and no bytes missing, behind any picks
-rooted-after : {N : Type 0} (network : NetworkState) (pick : Pick) (plan : Plan N) → IsRooted network plan → IsRooted network (plan_after network pick plan)
+rooted-after : {N : Type 0} (network : NetworkState) (pick : Pick) (plan : Plan N) → IsRooted network plan → IsRooted network
+    (plan_after network pick plan)
 rooted-after network pick plan rooted = record {
   rank = rooted.rank;
   most = rooted.most;
@@ -267,20 +275,24 @@ module _ {N : Type 0} (ops : NodeOps N) (network : NetworkState) (holds : HoldSt
 
   pub one_end : length picks ≡ all → after ops network s picks ≡ ended_board (length network.sizes) kept plan
   one_end full =
-      ended ops network holds Q missing kept rest (after ops network s picks) gone.0 (rooted-behind network picks plan rooted) whole (none_left full)
+      ended ops network holds Q missing kept rest (after ops network s picks) gone.0 (rooted-behind network picks plan rooted) whole
+      (none_left full)
       ∙ ap (λ nodes. record (ended_board (length network.sizes) kept plan) { nodes = nodes })
       (ends-same 0 (length network.sizes) rest.courses plan.courses (end-behind network picks plan))
 
   pub rests : AtRest ops network holds (after ops network s picks) ↔ (length picks ≡ all)
   rests = (
     λ still. by_number (picks_left (length network.sizes) rest) refl still,
-    λ full. at-rest ops network holds Q missing kept rest (after ops network s picks) gone.0 (rooted-behind network picks plan rooted) whole (none_left full),
+    λ full. at-rest ops network holds Q missing kept rest (after ops network s picks) gone.0 (rooted-behind network picks plan rooted)
+        whole (none_left full),
   )
     where
-      by_number : (n : ℕ) → picks_left (length network.sizes) rest ≡ n → AtRest ops network holds (after ops network s picks) → length picks ≡ all
+      by_number : (n : ℕ) → picks_left (length network.sizes) rest ≡ n → AtRest ops network holds (after ops network s picks) → length
+          picks ≡ all
       by_number zero none still = let is = gone.1 in omega (arith, is, none)
       by_number (suc n) more still =
-          let some = goes_on ops network holds Q missing kept rest (after ops network s picks) gone.0 (rooted-behind network picks plan rooted) whole
+          let some = goes_on ops network holds Q missing kept rest (after ops network s picks) gone.0
+          (rooted-behind network picks plan rooted) whole
           (λ none. omega (arith, more, none)) in
           let off : enabled ops network holds (after ops network s picks) some.0 ≡ false = still some.0 in
           absurd (let bad : true ≡ false = sym some.1 ∙ off in cc)

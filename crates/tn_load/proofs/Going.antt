@@ -1,5 +1,6 @@
 -- How a course goes on: what a node allows is the first act of what is left.
-use Rattle.std.proofs.Common.{◌≡◌, ◌≢◌, ℕ, ◌<◌, ◌==◌, inl, inr, Bool, true, false, List, [], ◌∷◌, Some, None, refl, sym, ap, subst, ◌∙◌, arith}
+use Rattle.std.proofs.Common.{◌≡◌, ◌≢◌, ℕ, ◌<◌, ◌==◌, inl, inr, Bool, true, false, List, [], ◌∷◌, Some, None, refl, sym, ap, subst, ◌∙◌}
+use Rattle.std.proofs.Common.{arith}
 use Rattle.std.specs.Prelude.{if◌then◌else◌}
 use Rattle.std.proofs.lemmas.Bool.{cases_eq}
 use Rattle.std.proofs.lemmas.Bool.Decides.{nat_tests}
@@ -117,7 +118,8 @@ acks-next (m ∷ ms) l is = ap (λ a. a ∷ acts_of ms) (waiting_for m.act (acts
 -- ---- a course
 
 -- what its first act leads to
-pub record Goes {N : Type 0} (ops : NodeOps N) (holds : HoldState) (Q : ℕ → N → List Act → Type 0) (p : ℕ) (c : Course N) (act : Act) : Type 0 where
+pub record Goes {N : Type 0} (ops : NodeOps N) (holds : HoldState) (Q : ℕ → N → List Act → Type 0) (p : ℕ) (c : Course N) (act : Act) :
+    Type 0 where
   pub is : acts_left c ≡ act ∷ acts_left (behind c)
   pub does : Does ops (record { holds = holds; processor = p; boot = c.boot }) act (now c) (now (behind c))
   pub course : IsCourse ops holds Q p (behind c)

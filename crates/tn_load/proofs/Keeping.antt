@@ -49,10 +49,12 @@ module _ {N : Type 0} (ops : NodeOps N) (network : NetworkState) (holds : HoldSt
         → picks_left count plan ≡ 1 + picks_left count (advanced_at far (record plan { courses = advanced p plan.courses }))
     takes-off p l Nothing is h = let never : waiting plan Nothing ≡ true = ap (waiting plan) (sym is) ∙ h.sender in cc
     takes-off p l Host is h =
-        let sum : weights plan.courses ≡ 1 + weights (advanced p plan.courses) = sum-advanced count p plan.courses (Takes h.byte) h.inside h.goes.is in
+        let sum : weights plan.courses ≡ 1 + weights (advanced p plan.courses) = sum-advanced count p plan.courses (Takes h.byte)
+        h.inside h.goes.is in
         omega (arith, sum)
     takes-off p l (Link q m) is h =
-        let sum : weights plan.courses ≡ 1 + weights (advanced p plan.courses) = sum-advanced count p plan.courses (Takes h.byte) h.inside h.goes.is in
+        let sum : weights plan.courses ≡ 1 + weights (advanced p plan.courses) = sum-advanced count p plan.courses (Takes h.byte)
+        h.inside h.goes.is in
         let end = u.pairing.ends p l q m (record { processor = h.inside; link = h.low }) is in
         let courses = courses-advanced ops network holds Q plan.courses count p u.courses h.goes.course in
         let waits : is_waiting m (acts_left (advanced p plan.courses q)) ≡ true =

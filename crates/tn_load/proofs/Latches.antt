@@ -43,8 +43,11 @@ other_end-twice network pairing (Link p l) place wired = go (far_at network p l)
         → IsWireEnd network (far_at network p l) × (other_end network (far_at network p l) ≡ Link p l)
     go Nothing is = absurd (wired is)
     go Host is =
-        let root = pairing.once p l place is in
-        (subst (IsWireEnd network) (sym is) tt, ap (other_end network) is ∙ ap (λ x. Link x network.root_link) (sym root.0) ∙ ap (Link p) (sym root.1))
+        let root = pairing.once p l place is in (
+          subst (IsWireEnd network) (sym is) tt,
+          ap (other_end network) is ∙ ap (λ x. Link x network.root_link) (sym root.0) ∙ ap (Link p)
+              (sym root.1),
+        )
     go (Link q m) is =
         (subst (IsWireEnd network) (sym is) (pairing.ends p l q m place is), ap (other_end network) is ∙ pairing.ways p l q m place is)
 
@@ -126,7 +129,8 @@ module _ {N : Type 0} (network : NetworkState) (pairing : IsPairing network) (mi
     | inr apart ↦
         let others : other_end network e ≢ other_end network here = λ is.
         let waits : waiting plan (other_end network here) ≡ true = sym (fits here h.place).full ∙ ap is_some h.held in
-        let some : other_end network here ≢ Nothing = λ none. let never : waiting plan Nothing ≡ true = ap (waiting plan) (sym none) ∙ waits in cc in
+        let some : other_end network here ≢ Nothing = λ none. let never : waiting plan Nothing ≡ true = ap (waiting plan) (sym none) ∙
+        waits in cc in
         apart (sym (other_end-twice network pairing e place (λ none. some (sym is ∙ none))).1 ∙ ap (other_end network) is
         ∙ (other_end-twice network pairing here h.place some).1) in
         fits-same e place (h.comes_else e apart) (h.goes (other_end network e)) (h.waits_else (other_end network e) others)

@@ -29,7 +29,6 @@ pub mod Allows
 pub mod Lones
 pub mod LoneNodes
 pub mod Answered
-pub mod Courses
 pub mod Along
 pub mod Fits
 pub mod Segments

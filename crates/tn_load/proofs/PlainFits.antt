@@ -3,13 +3,9 @@ use Rattle.std.proofs.Common.{inl, inr, ℕ, ◌+◌, ◌<◌, ◌≤◌, List, 
 use Rattle.std.specs.List.{AllByRecursion}
 use Rattle.std.proofs.lemmas.List.Elements.{recursion_from_All}
 use Rattle.tn_stream.specs.Images.{SegmentBytes, ImageBytes}
-use Rattle.tn_stream.specs.PlainImages.{LiesIn as LiesInMemory, AreApart as AreTwoApart, AreAllApart, IsPlain}
-use Rattle.tn_load.specs.Inner.Lives.{LieIn, Fits}
+use Rattle.tn_stream.specs.PlainImages.{LiesIn, AreApart as AreTwoApart, AreAllApart, IsPlain}
+use Rattle.tn_load.specs.Inner.Lives.{Fits}
 use Rattle.tn_load.proofs.Segments.{IsOutside, AreApart}
-
-lie-in : (size : ℕ) (segments : List SegmentBytes) → AllByRecursion (LiesInMemory size) segments → LieIn size segments
-lie-in size [] all = tt
-lie-in size (s ∷ rest) all = (record { some = all.0.some; low = all.0.low; high = all.0.high }, lie-in size rest all.1)
 
 outside : (s : SegmentBytes) (rest : List SegmentBytes) (x : ℕ) → s.base ≤ x → x < s.base + length s.bytes
     → AllByRecursion (AreTwoApart s) rest
@@ -31,7 +27,7 @@ apart-all (s ∷ rest) all =
 pub plain-fits : (size : ℕ) (image : ImageBytes) → IsPlain size image → Fits size image
 plain-fits size image plain =
     record {
-      segments = lie-in size image.segments (recursion_from_All (LiesInMemory size) image.segments plain.inside);
+      segments = recursion_from_All (LiesIn size) image.segments plain.inside;
       entry = plain.entry_is_word;
       wptr = plain.wptr_is_word;
       aligned = plain.aligned;

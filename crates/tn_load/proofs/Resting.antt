@@ -1,5 +1,6 @@
 -- Progress: while picks are left some pick is enabled.
-use Rattle.std.proofs.Common.{◌≡◌, ℕ, zero, suc, ◌+◌, ◌<◌, ◌==◌, ◌⊎◌, inl, inr, Bool, true, false, List, [], ◌∷◌, ◌++◌, length, Option, Some, None, refl, sym, ap, ◌∙◌, arith}
+use Rattle.std.proofs.Common.{◌≡◌, ℕ, zero, suc, ◌+◌, ◌<◌, ◌==◌, ◌⊎◌, inl, inr, Bool, true, false, List, [], ◌∷◌, ◌++◌, length, Option}
+use Rattle.std.proofs.Common.{Some, None, refl, sym, ap, ◌∙◌, arith}
 use Rattle.std.specs.Prelude.{is_some, if◌then◌else◌}
 use Rattle.std.proofs.lemmas.Bool.{cases_eq}
 use Rattle.tn_net.specs.declared.networks.Far.{Far}
@@ -34,7 +35,8 @@ left_or_not {N = N} c = go c.moments
 takes-left : {N : Type 0} (c : Course N) (l byte : ℕ) (bytes : List ℕ) → taken_by l c ≡ byte ∷ bytes → acts_left c ≡ [] → ⊥
 unfolding takes_of
 takes-left c l byte bytes is none =
-    let empty : (if l == c.boot then takes_of [] else []) ≡ byte ∷ bytes = sym (ap (λ a. if l == c.boot then takes_of a else []) none) ∙ is in
+    let empty : (if l == c.boot then takes_of [] else []) ≡ byte ∷ bytes = sym (ap (λ a. if l == c.boot then takes_of a else []) none) ∙
+    is in
     go (l == c.boot) empty
   where
     go : (test : Bool) → (if test then [] else []) ≡ byte ∷ bytes → ⊥
@@ -111,7 +113,8 @@ module _ {N : Type 0} (ops : NodeOps N) (network : NetworkState) (holds : HoldSt
       rooted.falls q p l there.processor (ap (λ k. far_at network q k) (sym boots) ∙ back) in
       elim (left_or_not (plan.courses q)) [
         | inl none ↦ absurd (takes-left (plan.courses q) m byte.0 rest takes none)
-        | inr (act, is_act) ↦ down_act fuel q m again there (omega (arith, falls, much)) boots full act (goes_at q there.processor act is_act)
+        | inr (act, is_act) ↦ down_act fuel q m again there (omega (arith, falls, much)) boots full act
+            (goes_at q there.processor act is_act)
       ]
 
   down : (fuel : ℕ) → Down fuel

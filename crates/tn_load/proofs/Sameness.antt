@@ -1,5 +1,6 @@
 -- A network under way is in the one state that its plan tells.
-use Rattle.std.proofs.Common.{◌≡◌, ℕ, suc, ◌+◌, ◌*◌, ◌/◌, ◌%◌, ◌<◌, List, [], ◌∷◌, ◌++◌, length, Option, Some, None, refl, sym, ap, subst, ◌∙◌, arith}
+use Rattle.std.proofs.Common.{◌≡◌, ℕ, suc, ◌+◌, ◌*◌, ◌/◌, ◌%◌, ◌<◌, List, [], ◌∷◌, ◌++◌, length, Option, Some, None, refl, sym, ap, subst}
+use Rattle.std.proofs.Common.{◌∙◌, arith}
 use Rattle.std.specs.Prelude.{slice_get, slice_index_or}
 use Rattle.std.proofs.lemmas.List.{append_cancel_right}
 use Rattle.std.proofs.lemmas.Option.{same_Some}
@@ -68,7 +69,8 @@ module _ {N : Type 0} (ops : NodeOps N) (network : NetworkState) (holds : HoldSt
   latch e place =
       same_latch (latch_of t e) (latch_of s e)
       (append_cancel_right (bytes_in (latch_of t e)) (bytes_in (latch_of s e)) (outgoing plan (other_end network e) ++ missing e)
-      (ap (λ bs. bytes_in (latch_of t e) ++ (bs ++ missing e)) (sym (goes (other_end network e))) ∙ sym (v.bytes e place) ∙ comes e ∙ u.bytes e place))
+      (ap (λ bs. bytes_in (latch_of t e) ++ (bs ++ missing e)) (sym (goes (other_end network e))) ∙ sym (v.bytes e place) ∙ comes e ∙
+      u.bytes e place))
 
   nodes : t.nodes ≡ s.nodes
   nodes =

@@ -5,7 +5,8 @@ use Rattle.tn_mem.specs.Memories.{put}
 use Rattle.tn_mem.proofs.Puts.{IsInside, byte_at, length-put, byte_at-put_below, byte_at-put_above, byte_at-put_inside}
 use Rattle.tn_mem.proofs.Frames.{Changed}
 use Rattle.tn_stream.specs.Images.{SegmentBytes, ImageBytes}
-use Rattle.tn_load.specs.Inner.Lives.{with_segments, LiesIn, LieIn}
+use Rattle.tn_stream.specs.PlainImages.{LiesIn}
+use Rattle.tn_load.specs.Inner.Lives.{with_segments, LieIn}
 use Rattle.tn_load.proofs.Lives.{Whole}
 
 -- an address lies in no segment

@@ -1,5 +1,6 @@
 -- How a network comes under way: lone runs make courses, and wires are empty at first.
-use Rattle.std.proofs.Common.{◌≡◌, ℕ, zero, suc, ◌+◌, ◌*◌, ◌<◌, inl, inr, false, List, [], ◌∷◌, ◌++◌, length, replicate, Option, Some, None, refl, sym, ap, subst, ◌∙◌}
+use Rattle.std.proofs.Common.{◌≡◌, ℕ, zero, suc, ◌+◌, ◌*◌, ◌<◌, inl, inr, false, List, [], ◌∷◌, ◌++◌, length, replicate, Option, Some}
+use Rattle.std.proofs.Common.{None, refl, sym, ap, subst, ◌∙◌}
 use Rattle.std.specs.Prelude.{slice_get, slice_index_or, is_some}
 use Rattle.std.proofs.lemmas.List.{length-replicate}
 use Rattle.tn_net.specs.declared.networks.Far.{Far}
@@ -83,7 +84,8 @@ module _ {N : Type 0} (ops : NodeOps N) (network : NetworkState) (holds : HoldSt
   latch_none (Link p l) = none_at None (4 * length nodes) (4 * p + l)
 
   -- nothing waits, also where there is no wire
-  none_waits : FitsTogether network missing plan → IsPairing network → (e : Far) → IsWireEnd network e → waiting plan (other_end network e) ≡ false
+  none_waits : FitsTogether network missing plan → IsPairing network → (e : Far) → IsWireEnd network e → waiting plan
+      (other_end network e) ≡ false
   none_waits fits pairing e place = elim (cases_far (other_end network e) Nothing) [
     | inl none ↦ ap (waiting plan) none
     | inr some ↦ fits.quiet (other_end network e) (other_end-twice network pairing e place some).0

@@ -32,7 +32,7 @@ use Rattle.tn_load.proofs.Lones.{WholeBeforeStart, LoneLife}
 use Rattle.tn_load.proofs.LoneNodes.{StandsLast, lone-run}
 use Rattle.tn_load.proofs.Along.{IsAlong, last_count, last_parts, lone-with, life-along}
 use Rattle.tn_load.proofs.Answered.{settled-life, settled-answered}
-use Rattle.tn_load.proofs.Courses.{moments, acts-moments, first-moments, follow}
+use Rattle.tn_load.proofs.Starting.{moments_of, acts-moments, first-moments, follow-moments}
 use Rattle.tn_load.proofs.TreeActs.{takes-sent, takes-stream}
 use Rattle.tn_load.proofs.TreePlaces.{IsPlaceOf, place-is, root-place, root-processor, under, silent}
 use Rattle.tn_load.proofs.Leading.{each_link}
@@ -133,7 +133,7 @@ module _ (network : NetworkState) (nodes : List LoadNode) (images : List ImageBy
       let run : OwnRun p = own-run network nodes images powers holds h p inside in
       record {
         boot = boots p;
-        moments = moments memory_ops (post p) (Facts p) (acts p) (powered_node (power network nodes images powers holds h p))
+        moments = moments_of memory_ops (post p) (Facts p) (acts p) (powered_node (power network nodes images powers holds h p))
             (end_of p run) (alone_run p inside run);
         end = end_of p run;
       }
@@ -164,7 +164,7 @@ module _ (network : NetworkState) (nodes : List LoadNode) (images : List ImageBy
         first = first-moments memory_ops (post p) (Facts p) (acts p) first (end_of p run) alone;
         course = record {
           boot = boots-low p inside;
-          follow = follow memory_ops (post p) (Facts p) (acts p) first (end_of p run) alone (ended p inside run.after);
+          follow = follow-moments memory_ops (post p) (Facts p) (acts p) first (end_of p run) alone (ended p inside run.after);
           answered = subst AreAnswered (sym acts_known)
               (settled-answered (settled-life (branch network nodes images powers holds h p).root
               (branch network nodes images powers holds h p).below));

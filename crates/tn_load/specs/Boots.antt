@@ -124,4 +124,4 @@ abbrev pub LoadingOne : Type 0
 LoadingOne =
     (network : NetworkState) (image : ImageBytes) → IsPairing network → length network.sizes ≡ 1 → AreFor network (image ∷ [])
     → Boots network (image ∷ []) (stream (one_processor network.root_link image))
-        (load_steps (image ∷ []) (alone_node network.root_link ∷ []))
+    (load_steps (image ∷ []) (alone_node network.root_link ∷ []))

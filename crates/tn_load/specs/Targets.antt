@@ -1,5 +1,5 @@
 -- What a processor holds once its image is loaded.
-use Rattle.std.specs.Prelude.{ℕ, List, map}
+use Rattle.std.specs.Prelude.{List, map}
 use Rattle.tn_network.specs.Loads.{PlacedBytes, Target}
 use Rattle.tn_stream.specs.Images.{SegmentBytes, ImageBytes}
 

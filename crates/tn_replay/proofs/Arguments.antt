@@ -359,7 +359,8 @@ step_read names (t ∷ u ∷ v ∷ []) =
     (ap (λ c. or_else (refusal (whole_name_at t)) (or_else (refusal (word_at u)) (or_else c None)))
     (sym (mark_refusal (codes "slice") v))) refl ends
   where
-    ends : (name : List ℕ) (clock : ℕ) (slice : Bool) → Three whole_name_at word_at (mark_at (codes "slice")) (t ∷ u ∷ v ∷ []) name clock slice
+    ends : (name : List ℕ) (clock : ℕ) (slice : Bool) → Three whole_name_at word_at (mark_at (codes "slice")) (t ∷ u ∷ v ∷ []) name clock
+        slice
         → Takes names keyword.Step (t ∷ u ∷ v ∷ []) (of_processor names (λ p. act.Pick (pick.Proc p slice clock)) name)
         ⊎ Refuses names keyword.Step (t ∷ u ∷ v ∷ []) (of_processor names (λ p. act.Pick (pick.Proc p slice clock)) name)
     ends name clock slice (one, two, three, e, f, g, h) =
@@ -384,9 +385,11 @@ unfolding statement_said ArgumentsSay PickSays
 arguments_read names keyword.Power ts = power_read names ts
 arguments_read names keyword.Step ts = step_read names ts
 arguments_read names keyword.Send ts =
-    named_two names keyword.Send link_at (λ p l. act.Pick (pick.Send p l)) (λ ts. refl) (λ n. refl) refl refl (λ ts p l h. h) (λ p l. refl) ts
+    named_two names keyword.Send link_at (λ p l. act.Pick (pick.Send p l)) (λ ts. refl) (λ n. refl) refl refl (λ ts p l h. h)
+    (λ p l. refl) ts
 arguments_read names keyword.Take ts =
-    named_two names keyword.Take link_at (λ p l. act.Pick (pick.Take p l)) (λ ts. refl) (λ n. refl) refl refl (λ ts p l h. h) (λ p l. refl) ts
+    named_two names keyword.Take link_at (λ p l. act.Pick (pick.Take p l)) (λ ts. refl) (λ n. refl) refl refl (λ ts p l h. h)
+    (λ p l. refl) ts
 arguments_read names keyword.HostSend ts =
     none_read names keyword.HostSend (statement.Does (act.Pick pick.HostSend)) ts refl refl refl refl (λ e. e) refl
 arguments_read names keyword.HostTake ts =

@@ -139,7 +139,8 @@ unfolding take
 taken_acts s [] = sym (append-nil s.acts)
 taken_acts s ((n, statement.Power byte error halt) ∷ said) = taken_acts (take (at_line n s) (statement.Power byte error halt)) said
 taken_acts s ((n, statement.Does a) ∷ said) =
-    taken_acts (take (at_line n s) (statement.Does a)) said ∙ append_assoc s.acts (record { line = n; act = a } ∷ []) (filter_map act_in said)
+    taken_acts (take (at_line n s) (statement.Does a)) said ∙ append_assoc s.acts (record { line = n; act = a } ∷ [])
+    (filter_map act_in said)
 
 -- `power` stands no more behind a first statement
 taken_power : (s : ReaderState) (said : List (ℕ × Statement)) → AllStand false said → (taken s said).power ≡ s.power
@@ -168,5 +169,6 @@ all_power ((n, statement.Does a) ∷ said) stand = taken_power (take (at_line n 
 pub all_first : (said : List (ℕ × Statement)) → (taken nothing_read said).first ≡ is_silent said
 unfolding take
 all_first [] = refl
-all_first ((n, statement.Power byte error halt) ∷ said) = taken_first (take (at_line n nothing_read) (statement.Power byte error halt)) said refl
+all_first ((n, statement.Power byte error halt) ∷ said) = taken_first (take (at_line n nothing_read) (statement.Power byte error halt))
+    said refl
 all_first ((n, statement.Does a) ∷ said) = taken_first (take (at_line n nothing_read) (statement.Does a)) said refl

@@ -45,7 +45,8 @@ pub schedule_found : (names : List (List ℕ)) (text : List ℕ) (s : ScheduleSt
 schedule_found names text s e =
     let w = walk_of (schedule_line names) finish nothing_read 0 (lines text) s e in
     let q = says_of_walk names (lines text) nothing_read w.0 w.1 in
-    let is : s ≡ record { power = w.0.power; lines = w.0.acts } = ok-ok (finish w.0) s (record { power = w.0.power; lines = w.0.acts }) w.2 refl in
+    let is : s ≡ record { power = w.0.power; lines = w.0.acts } = ok-ok (finish w.0) s (record { power = w.0.power; lines = w.0.acts })
+    w.2 refl in
     record {
       said = q.0;
       say = q.1;

@@ -147,9 +147,10 @@ ends-built config target before after old new r ends e =
     elim (ends-done (then_plan (system_plan config) (stream_written target)) before after old new r ends e) [
       | inl w ↦ built config target before after w
       | inr s ↦ (let made = came-through before.files (done None s.text) (system_plan config) (stream_written target) s.goes in
-        let same : done (Some (target, system_stream made.0.1)) [] ≡ done None s.text =
-        given-same before.files (done None s.text) (done (Some (target, system_stream made.0.1)) []) (gives (done None s.text)) refl made.2 in
-        absurd cc)
+          let same : done (Some (target, system_stream made.0.1)) [] ≡ done None s.text =
+          given-same before.files (done None s.text) (done (Some (target, system_stream made.0.1)) []) (gives (done None s.text)) refl
+          made.2 in
+          absurd cc)
     ]
 
 -- ---- tree
@@ -178,10 +179,10 @@ pub ends-shown : {T : Type 0} (config : List ℕ) (before after : Stored) (old n
 ends-shown config before after old new r ends e =
     elim (ends-done (then_plan (system_plan config) tree_printed) before after old new r ends e) [
       | inl w ↦ (let made = came-through before.files (done (Some (w.file, w.bytes)) []) (system_plan config) tree_printed w.goes in
-        let same : done None (system_tree made.0) ≡ done (Some (w.file, w.bytes)) [] =
-        given-same before.files (done (Some (w.file, w.bytes)) []) (done None (system_tree made.0))
-        (gives (done (Some (w.file, w.bytes)) [])) refl made.2 in
-        absurd cc)
+          let same : done None (system_tree made.0) ≡ done (Some (w.file, w.bytes)) [] =
+          given-same before.files (done (Some (w.file, w.bytes)) []) (done None (system_tree made.0))
+          (gives (done (Some (w.file, w.bytes)) [])) refl made.2 in
+          absurd cc)
       | inr s ↦ shown config before old new s
     ]
 
@@ -190,7 +191,8 @@ ends-shown config before after old new r ends e =
 started : (source target : List ℕ) (link : ℕ) (before after : Stored)
     → Wrote (then_plan (code_plan source) (written_from target (boot_stream link))) before after → IsStarted source target link before after
 started source target link before after w =
-    let made = came-through before.files (done (Some (w.file, w.bytes)) []) (code_plan source) (written_from target (boot_stream link)) w.goes in
+    let made = came-through before.files (done (Some (w.file, w.bytes)) []) (code_plan source) (written_from target (boot_stream link))
+    w.goes in
     let same : done (Some (target, boot_stream link made.0)) [] ≡ done (Some (w.file, w.bytes)) [] =
     given-same before.files (done (Some (w.file, w.bytes)) []) (done (Some (target, boot_stream link made.0)) [])
     (gives (done (Some (w.file, w.bytes)) [])) refl made.2 in
@@ -209,8 +211,10 @@ pub ends-started : {T : Type 0} (source target : List ℕ) (link : ℕ) (before 
 ends-started source target link before after old new r ends e =
     elim (ends-done (then_plan (code_plan source) (written_from target (boot_stream link))) before after old new r ends e) [
       | inl w ↦ started source target link before after w
-      | inr s ↦ (let made = came-through before.files (done None s.text) (code_plan source) (written_from target (boot_stream link)) s.goes in
-        let same : done (Some (target, boot_stream link made.0)) [] ≡ done None s.text =
-        given-same before.files (done None s.text) (done (Some (target, boot_stream link made.0)) []) (gives (done None s.text)) refl made.2 in
-        absurd cc)
+      | inr s ↦ (let made = came-through before.files (done None s.text) (code_plan source) (written_from target (boot_stream link))
+          s.goes in
+          let same : done (Some (target, boot_stream link made.0)) [] ≡ done None s.text =
+          given-same before.files (done None s.text) (done (Some (target, boot_stream link made.0)) []) (gives (done None s.text)) refl
+          made.2 in
+          absurd cc)
     ]

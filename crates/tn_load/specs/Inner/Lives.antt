@@ -1,8 +1,8 @@
 -- The acts of a processor of a tree, from its power-up to its entry, and what they leave in its memory.
-use Rattle.std.specs.Prelude.{⊤, ℕ, zero, suc, ◌≡◌, ◌+◌, ◌-◌, ◌/◌, ◌<◌, ◌≤◌, ◌%◌, ◌^◌, ◌==◌, List, [], ◌∷◌, ◌++◌, length}
+use Rattle.std.specs.Prelude.{⊤, ℕ, zero, suc, ◌≡◌, ◌-◌, ◌/◌, ◌<◌, ◌%◌, ◌^◌, ◌==◌, List, [], ◌∷◌, ◌++◌, length}
 use Rattle.std.specs.Prelude.{map, replicate, take, drop, if◌then◌else◌}
-use Rattle.std.specs.List.{flat_map}
-use Rattle.tn_word.specs.Words.{most_neg, load_base, bytes_of_word}
+use Rattle.std.specs.List.{flat_map, AllByRecursion}
+use Rattle.tn_word.specs.Words.{bytes_of_word}
 use Rattle.tn_word.specs.Channels.{out_channel_of}
 use Rattle.tn_mem.specs.Memories.{put}
 use Rattle.tn_loader.specs.Commands.{load_command, forward_command, run_command, nop_command}
@@ -10,6 +10,7 @@ use Rattle.tn_loader.specs.Primary.{primary_bytes}
 use Rattle.tn_loader.specs.Secondary.{secondary_bytes}
 use Rattle.tn_net.specs.Trees.{LoadNode}
 use Rattle.tn_stream.specs.Images.{SegmentBytes, ImageBytes}
+use Rattle.tn_stream.specs.PlainImages.{LiesIn}
 use Rattle.tn_stream.specs.LoadBranches.{branch_at}
 use Rattle.tn_stream.specs.Branches.{Children}
 use Rattle.tn_stream.specs.Branches.Children.{none, child}
@@ -88,15 +89,9 @@ unfoldable pub with_segments : List SegmentBytes → List ℕ → List ℕ
 with_segments [] m = m
 with_segments (s ∷ rest) m = with_segments rest (put m s.base s.bytes)
 
--- a segment lies from the least address of an image on, in a memory of so many bytes
-pub record LiesIn (size : ℕ) (s : SegmentBytes) : Type 0 where
-  pub some : 0 < length s.bytes
-  pub low : load_base ≤ s.base
-  pub high : s.base + length s.bytes ≤ most_neg + size
-
+-- segments that lie in a memory of so many bytes
 abbrev pub LieIn : ℕ → List SegmentBytes → Type 0
-LieIn size [] = ⊤
-LieIn size (s ∷ rest) = LiesIn size s × LieIn size rest
+LieIn size segments = AllByRecursion (LiesIn size) segments
 
 -- an image that can run in such a memory
 pub record Fits (size : ℕ) (image : ImageBytes) : Type 0 where

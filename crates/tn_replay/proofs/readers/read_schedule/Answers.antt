@@ -24,10 +24,15 @@ pub returns-in-Ok-clause-only : goal.returns-in-Ok-clause-only
 returns-in-Ok-clause-only c = λ s is. ap faulted (c.in-Ok.ensures ∙ schedule_only c.args.names.now c.args.text.now s is.1)
 
 pub returns-in-Err-Fault-clause-only : goal.returns-in-Err-Fault-clause-only
-returns-in-Err-Fault-clause-only c = λ s is. ap faulted (told c.in-Err-Fault.field-0 c.in-Err-Fault.fault c.in-Err-Fault.field-0-is c.in-Err-Fault.ensures ∙ schedule_only c.args.names.now c.args.text.now s is.1)
+returns-in-Err-Fault-clause-only c = λ s is. ap faulted
+    (told c.in-Err-Fault.field-0 c.in-Err-Fault.fault c.in-Err-Fault.field-0-is c.in-Err-Fault.ensures ∙ schedule_only c.args.names.now
+    c.args.text.now s is.1)
 
 pub returns-in-Err-Fault-clause-fault : goal.returns-in-Err-Fault-clause-fault
 returns-in-Err-Fault-clause-fault c = λ fault e.
     let short : length (lines c.args.text.now) ≤ LINE_LIMIT = omega (arith, c.if-count.false, c.count_lines-count.ensures) in
-    let same : c.in-Err-Fault.fault ≡ fault = cc in
-    (short, schedule_fault c.args.names.now c.args.text.now fault (sym (told c.in-Err-Fault.field-0 c.in-Err-Fault.fault c.in-Err-Fault.field-0-is c.in-Err-Fault.ensures) ∙ ap Err same))
+    let same : c.in-Err-Fault.fault ≡ fault = cc in (
+      short,
+      schedule_fault c.args.names.now c.args.text.now fault
+          (sym (told c.in-Err-Fault.field-0 c.in-Err-Fault.fault c.in-Err-Fault.field-0-is c.in-Err-Fault.ensures) ∙ ap Err same),
+    )
