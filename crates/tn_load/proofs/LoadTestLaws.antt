@@ -1,7 +1,8 @@
 -- What the tests of a loaded network tell.
-use Rattle.std.proofs.Common.{◌≡◌, ◌⊎◌, inl, inr, ℕ, zero, suc, ◌+◌, ◌-◌, ◌*◌, ◌/◌, ◌%◌, ◌<◌, ◌≤◌, Bool, true, false, not, ◌&&◌, List, [], ◌∷◌, length, take, drop}
+use Rattle.std.proofs.Common.{◌≡◌, ◌⊎◌, inl, inr, ℕ, zero, suc, ◌+◌, ◌-◌, ◌*◌, ◌/◌, ◌%◌, ◌<◌, ◌≤◌, Bool, true, false, not, ◌&&◌}
+use Rattle.std.proofs.Common.{List, [], ◌∷◌, length, take, drop}
 use Rattle.std.proofs.Common.{map, Option, Some, None, Result, Ok, Err, refl, sym, ap, subst, ◌∙◌, arith}
-use Rattle.std.specs.Prelude.{◌==◌, is_none, slice_get, slice_index_or, All, IsTrue}
+use Rattle.std.specs.Prelude.{◌==◌, is_none, slice_get, slice_index_or, All}
 use Rattle.std.specs.List.{list_all}
 use Rattle.std.specs.Str.{bytes_eq}
 use Rattle.std.proofs.lemmas.Bool.{cases_lt}
@@ -17,7 +18,6 @@ use Rattle.tn_cpu.specs.declared.registers.Reg.TheVariants.{Undefined, Word}
 use Rattle.tn_node.specs.Engines.{engine_of}
 use Rattle.tn_node.specs.Nodes.{NodeState, IsQuiet}
 use Rattle.tn_node.proofs.Pokes.{each_link}
-use Rattle.tn_network.specs.Hosts.{HostState}
 use Rattle.tn_network.specs.Boards.{BoardState, latch_at}
 use Rattle.tn_network.specs.NodeOps.{stands_at}
 use Rattle.tn_network.specs.Loads.{PlacedBytes, Target, StandsIn, IsLoadedNode, AreLoadedNodes, IsLoaded}
@@ -89,12 +89,12 @@ placed-behind m bytes base behind = go (bytes_eq (block m base (length bytes)) b
     go : (b : Bool) → bytes_eq (block m base (length bytes)) bytes ≡ b → b ≡ false
     go false e = refl
     go true e = absurd (
-      let size : length (drop (base - most_neg) m) ≡ length m - (base - most_neg) = length-drop (base - most_neg) m in
-      let whole : take (length bytes) (drop (base - most_neg) m) ≡ drop (base - most_neg) m =
-      take_all (length bytes) (drop (base - most_neg) m) (omega (arith, size, behind)) in
-      let same : take (length bytes) (drop (base - most_neg) m) ≡ bytes = (bytes_eq-Decides _ _).0 e in
-      let count = ap length (sym whole ∙ same) in
-      omega (arith, size, behind, count))
+        let size : length (drop (base - most_neg) m) ≡ length m - (base - most_neg) = length-drop (base - most_neg) m in
+        let whole : take (length bytes) (drop (base - most_neg) m) ≡ drop (base - most_neg) m =
+        take_all (length bytes) (drop (base - most_neg) m) (omega (arith, size, behind)) in
+        let same : take (length bytes) (drop (base - most_neg) m) ≡ bytes = (bytes_eq-Decides _ _).0 e in
+        let count = ap length (sym whole ∙ same) in
+        omega (arith, size, behind, count))
 
 -- no bytes stand anywhere; all others do not stand behind a memory
 placed-none : (m : List ℕ) (base : ℕ) → bytes_eq (block m base 0) [] ≡ true

@@ -1,5 +1,5 @@
 -- Settling a network makes its picks in order.
-use Rattle.std.proofs.Common.{◌≡◌, ◌⊎◌, inl, inr, ℕ, zero, suc, ◌+◌, ◌-◌, ◌^◌, ◌<◌, ◌≤◌, Bool, true, false, List, [], ◌∷◌, ◌++◌, length}
+use Rattle.std.proofs.Common.{◌≡◌, inl, inr, ℕ, zero, suc, ◌-◌, ◌^◌, ◌<◌, ◌≤◌, Bool, true, false, List, [], ◌∷◌, length}
 use Rattle.std.proofs.Common.{reverse, Option, Some, None, refl, sym, ap, subst, ◌∙◌, arith, append-nil}
 use Rattle.std.specs.Prelude.{slice_get, find, nat_lt, IsTrue, if◌then◌else◌}
 use Rattle.std.proofs.lemmas.Bool.{cases_lt}
@@ -13,14 +13,14 @@ use Rattle.tn_network.specs.Boards.{BoardState, given}
 use Rattle.tn_network.specs.Holds.{HoldState, enabled}
 use Rattle.tn_network.specs.Loads.{IsLoaded}
 use Rattle.tn_network.specs.Nets.{NetState, memory_ops, net_enabled, net_after}
-use Rattle.tn_network.specs.PickLists.{AtRest, AreEnabled, picks, picks_in_order, followed, settled}
+use Rattle.tn_network.specs.PickLists.{picks, picks_in_order, followed, settled}
 use Rattle.tn_network.specs.Resets.{PowerState, AreSized}
 use Rattle.tn_network.specs.Inner.PickBits.{numbered, first_number, number_of}
 use Rattle.tn_network.proofs.PickOrder.{picks-get, find-none, get-reverse}
 use Rattle.tn_network.proofs.EnabledLaws.{proc-number, send-number, take-number, host-numbers, number-within}
-use Rattle.tn_load.specs.Settles.{walked, IsSettled}
+use Rattle.tn_load.specs.Settles.{walked}
 use Rattle.tn_load.specs.NetWalks.{NetAtRest, net_first, after_some, net_walked}
-use Rattle.tn_load.specs.Boots.{Boots, Loads, IsLive, IsSafe, Rests, begun, state_behind}
+use Rattle.tn_load.specs.Boots.{Boots, IsLive, Rests, begun, state_behind}
 use Rattle.tn_load.specs.Targets.{targets_of}
 use Rattle.tn_load.specs.SettledNets.{SettledNet, net_settled, WereMade, IsShown}
 use Rattle.tn_load.proofs.WalkLaws.{first-enabled}
@@ -90,7 +90,8 @@ module _ (n : NetState) where
 
 -- ---- the picks made
 
-made-none : (back : Bool) (most : ℕ) (n new : NetState) → new ≡ n → net_settled back most n ≡ [] → WereMade n new 0 (net_settled back most n)
+made-none : (back : Bool) (most : ℕ) (n new : NetState) → new ≡ n → net_settled back most n ≡ []
+    → WereMade n new 0 (net_settled back most n)
 made-none back most n new same none =
     subst (λ (ps : List Pick). WereMade n new 0 ps) (sym none) (record {
       count = refl;
@@ -148,7 +149,7 @@ made back (suc most) n new (suc steps) few state going short = go (net_first bac
         → WereMade n new (suc steps) (net_settled back (suc most) n)
     go None first later =
         absurd
-            (going 0 (omega arith) (subst (λ (x : NetState). NetAtRest x) (sym (walked-zero back n)) (none-rest n back first)))
+        (going 0 (omega arith) (subst (λ (x : NetState). NetAtRest x) (sym (walked-zero back n)) (none-rest n back first)))
     go (Some pick) first later =
         made-more back most n new steps pick first
         (later (net_after pick n) new steps (omega (arith, few)) (state ∙ walked-one back n steps pick first)
@@ -186,7 +187,7 @@ shown images wanted most old new steps rested ps m live bound enough short told 
       made = sym m.count ∙ same;
       rests = told ((rests old new steps ps m).1 ((live.rest ps m.enabled).1 same));
       loaded = subst (λ (s : BoardState (NodeState (List ℕ))). IsLoaded (λ memory. memory) s (targets_of images)) (sym m.state)
-      (live.loaded ps m.enabled same);
+          (live.loaded ps m.enabled same);
     }
 
 pub boots-shown : (network : NetworkState) (images : List ImageBytes) (bytes : List ℕ) (wanted : ℕ) → Boots network images bytes wanted
@@ -197,5 +198,6 @@ boots-shown network images bytes wanted boots powers sized back most new steps r
     let loads = boots powers sized in
     let m = made-picks back most (begun network images powers bytes) new steps rested s in
     let safe = loads.safe bytes [] (sym (append-nil bytes)) in
-    shown images wanted most (begun network images powers bytes) new steps rested (net_settled back most (begun network images powers bytes))
-    m loads.live (safe.bound (net_settled back most (begun network images powers bytes)) m.enabled) enough s.short s.rest.1
+    shown images wanted most (begun network images powers bytes) new steps rested
+    (net_settled back most (begun network images powers bytes)) m loads.live
+    (safe.bound (net_settled back most (begun network images powers bytes)) m.enabled) enough s.short s.rest.1

@@ -1,5 +1,5 @@
 -- A network as a walk: each step is the pick that is enabled and comes first, or last.
-use Rattle.std.specs.Prelude.{ℕ, Bool, List, Option, Some, None}
+use Rattle.std.specs.Prelude.{Bool, Option, Some, None}
 use Rattle.tn_network.specs.declared.picks.Pick.{Pick}
 use Rattle.tn_network.specs.PickLists.{AtRest, first_pick}
 use Rattle.tn_network.specs.Nets.{NetState, memory_ops, net_after}

@@ -98,7 +98,10 @@ fn is_loaded(node: &Node<Memory>, image: &Image) -> bool
 fn is_started(node: &Node<Memory>, image: &Image) -> bool
     ensures { result ≡ is_started (target_of (image_of image.now)) node.now }
 {
-    has_pointers(node, image) && has_stack(node) && are_shut(node) && has_no_timers(node.cpu().memory())
+    has_pointers(node, image)
+        && has_stack(node)
+        && are_shut(node)
+        && has_no_timers(node.cpu().memory())
 }
 
 /// Whether a processor stands at its entry, with its workspace pointer, an empty queue and no error.
