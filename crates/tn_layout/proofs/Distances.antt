@@ -1,7 +1,38 @@
 -- Distances grow with the sizes, and so do the lengths of operands.
-use Rattle.std.proofs.Common.{◌≡◌, ℕ, zero, suc, ◌+◌, ◌-◌, ◌<◌, ◌≤◌, pos, negsuc, ◌-ℤ◌, List, [], ◌∷◌, take, get_or, refl, ⊎_elim, arith}
+use Rattle.std.proofs.Common.{
+  ◌≡◌,
+  ℕ,
+  zero,
+  suc,
+  ◌+◌,
+  ◌-◌,
+  ◌<◌,
+  ◌≤◌,
+  pos,
+  negsuc,
+  ◌-ℤ◌,
+  List,
+  [],
+  ◌∷◌,
+  take,
+  get_or,
+  refl,
+  ap,
+  ⊎_elim,
+  arith,
+  min,
+  max,
+  ◌≢◌,
+  ◌⊎◌,
+  inl,
+  inr,
+  ◌&&◌,
+  nat_le,
+  nat_lt,
+  false,
+}
 use Rattle.std.proofs.lemmas.Int.{ints}
-use Rattle.std.proofs.lemmas.Bool.{cases_lt}
+use Rattle.std.proofs.lemmas.Bool.{cases_lt, and_cases, ltb-false, leb-false}
 use Rattle.std.proofs.lemmas.List.Sums.{sum_by-cons}
 use Rattle.tn_prefix.specs.Coding.{coding_length}
 use Rattle.tn_prefix.proofs.Lengths.{coding_length-mono, coding_length-mono_negative, coding_length-range, coding_length-small}
@@ -72,3 +103,51 @@ distance-mono s t high low most = ⊎_elim
     (λ (over : low ≤ high). ahead-mono (position s high) (position s low) (position t high) (position t low)
     (position-mono s low high over) (omega (arith, position-spread s t low high over most)))
     (cases_lt high low)
+
+-- ---- one size grows
+
+-- both places lie at or before a piece, or both behind it
+pub outside : (a b p : ℕ) → (nat_le (min a b) p && nat_lt p (max a b)) ≡ false → ((a ≤ p) × (b ≤ p)) ⊎ ((p < a) × (p < b))
+outside a b p h = ⊎_elim
+    (λ (e : nat_le (min a b) p ≡ false). inr (omega (arith, leb-false (min a b) p e), omega (arith, leb-false (min a b) p e)))
+    (λ (e : nat_lt p (max a b) ≡ false). inl (omega (arith, ltb-false p (max a b) e), omega (arith, ltb-false p (max a b) e)))
+    (and_cases (nat_le (min a b) p) (nat_lt p (max a b)) h)
+
+module _ (s t : List ℕ) (p : ℕ) (same : (k : ℕ) → k ≢ p → get_or t k 0 ≡ get_or s k 0) where
+  -- no place before its end moves, and all others move by as much
+  pub position-before : (a : ℕ) → a ≤ p → position t a ≡ position s a
+  position-before zero h = refl
+  position-before (suc a) h = omega (
+    arith,
+    position-suc s a,
+    position-suc t a,
+    position-before a (omega arith),
+    same a (λ e. absurd (omega (arith, e, h))),
+  )
+
+  pub position-behind : (a : ℕ) → p < a → position t a + get_or s p 0 ≡ position s a + get_or t p 0
+  position-behind zero h = absurd (omega arith)
+  position-behind (suc a) h = ⊎_elim
+      (λ (less : p < a). omega (
+        arith,
+        position-suc s a,
+        position-suc t a,
+        position-behind a less,
+        same a
+            (λ e. absurd (omega (arith, e, less))),
+      ))
+      (λ (over : a ≤ p). let is : a ≡ p = omega (arith, over, h) in
+      omega (arith, position-suc s a, position-suc t a, position-before a over, ap (λ k. get_or s k 0) is, ap (λ k. get_or t k 0) is))
+      (cases_lt p a)
+
+  moved-alike : (x y u v m n : ℕ) → x + m ≡ u + n → y + m ≡ v + n → pos x -ℤ pos y ≡ pos u -ℤ pos v
+  moved-alike x y u v m n e f = omega (arith, ints, e, f)
+
+  -- so a distance that doesn't span it stays
+  pub distance-kept : (high low : ℕ) → ((high ≤ p) × (low ≤ p)) ⊎ ((p < high) × (p < low)) → distance t high low ≡ distance s high low
+  distance-kept high low h = ⊎_elim
+      (λ (b : (high ≤ p) × (low ≤ p)). moved-alike (position t high) (position t low) (position s high) (position s low) 0 0
+      (omega (arith, position-before high b.0)) (omega (arith, position-before low b.1)))
+      (λ (b : (p < high) × (p < low)). moved-alike (position t high) (position t low) (position s high) (position s low)
+      (get_or s p 0) (get_or t p 0) (position-behind high b.0) (position-behind low b.1))
+      h

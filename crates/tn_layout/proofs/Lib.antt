@@ -1,3 +1,9 @@
 pub mod Distances
 pub mod Sweeps
 pub mod LeastSizes
+pub mod SegmentTreeLaws
+pub mod ReferenceLaws
+pub mod MarkLaws
+pub mod Potentials
+pub mod LayoutLaws
+pub mod Rows

@@ -1,14 +1,13 @@
--- What sweeps keep: no size is more than its piece needs, or than in a valid list.
-use Rattle.std.proofs.Common.{◌≡◌, ℕ, ◌+◌, ◌*◌, ◌<◌, ◌≤◌, max, List, length, map, get_or, ap, ◌∙◌, ⊎_elim, arith}
-use Rattle.std.specs.List.{sum}
+-- What growth keeps: no size is more than its piece needs, or than in a valid list.
+use Rattle.std.proofs.Common.{◌≡◌, ℕ, ◌+◌, ◌<◌, ◌≤◌, max, List, length, map, get_or, ap, ◌∙◌, ⊎_elim, arith}
 use Rattle.std.proofs.lemmas.Bool.{cases_lt}
-use Rattle.std.proofs.lemmas.List.{get_or_past, get_or-map, length-map, take_all}
+use Rattle.std.proofs.lemmas.List.{get_or_past, get_or-map, length-map}
 use Rattle.tn_prefix.proofs.Lengths.{coding_length-range}
 use Rattle.tn_layout.specs.declared.pieces.Piece.{Piece}
 use Rattle.tn_layout.specs.declared.pieces.Piece.TheVariants.{Fixed, Rel, Diff}
-use Rattle.tn_text.specs.declared.limits.TheConstants.{ITEM_LIMIT}
-use Rattle.tn_layout.specs.Sizes.{piece_at, position, distance, needed, Suits, Valid}
-use Rattle.tn_layout.specs.Inner.Positions.{first_size, ArePositions}
+use Rattle.tn_layout.specs.Sizes.{piece_at, distance, needed, Suits, Valid}
+use Rattle.tn_layout.specs.Inner.Positions.{first_size}
+pub use Rattle.tn_layout.specs.Inner.Layouts.{IsLow}
 use Rattle.tn_layout.proofs.Distances.{AreAtMost, distance-mono}
 
 -- a piece needs no fewer bytes where sizes are larger
@@ -29,12 +28,6 @@ suits-needed s i (Fixed size) h = omega arith
 suits-needed s i (Rel to) h = h
 suits-needed s i (Diff high low) h = h
 
--- what each sweep keeps
-pub record IsLow (pieces : List Piece) (s : List ℕ) : Type 0 where
-  pub as_many : length s ≡ length pieces
-  pub low : (i : ℕ) → i < length pieces → get_or s i 0 ≤ needed s i (piece_at pieces i)
-  pub under : (others : List ℕ) → Valid pieces others → (i : ℕ) → i < length pieces → get_or s i 0 ≤ get_or others i 0
-
 -- sizes that are at most others at each piece are so everywhere
 at_most : (s t : List ℕ) → ((i : ℕ) → i < length s → get_or s i 0 ≤ get_or t i 0) → AreAtMost s t
 at_most s t h k = ⊎_elim (h k) (λ (past : length s ≤ k). omega (arith, get_or_past s k 0 past)) (cases_lt k (length s))
@@ -43,23 +36,29 @@ at_most s t h k = ⊎_elim (h k) (λ (past : length s ≤ k). omega (arith, get_
 abbrev pub AreRaised : List Piece → List ℕ → List ℕ → Type 0
 AreRaised pieces s t = (k : ℕ) → k < length t → get_or t k 0 ≡ max (get_or s k 0) (needed s k (piece_at pieces k))
 
--- low sizes stay low
-pub low_more : (pieces : List Piece) (s t : List ℕ) → IsLow pieces s → length t ≡ length s → AreRaised pieces s t → IsLow pieces t
-low_more pieces s t h long raised = record { as_many = long ∙ h.as_many; low = low; under = under }
+-- sizes that grow to no more than is needed stay low
+pub low_some : (pieces : List Piece) (s t : List ℕ) → IsLow pieces s → length t ≡ length s → AreAtMost s t
+    → ((i : ℕ) → i < length pieces → get_or t i 0 ≤ needed s i (piece_at pieces i)) → IsLow pieces t
+low_some pieces s t h long up most = record { as_many = long ∙ h.as_many; low = low; under = under }
   where
-    up : AreAtMost s t
-    up = at_most s t (λ i l. omega (arith, raised i (omega arith)))
-
-    is : (i : ℕ) → i < length pieces → get_or t i 0 ≡ needed s i (piece_at pieces i)
-    is i l = omega (arith, raised i (omega (arith, h.as_many)), h.low i l)
-
     low : (i : ℕ) → i < length pieces → get_or t i 0 ≤ needed t i (piece_at pieces i)
-    low i l = omega (arith, is i l, needed-mono s t i (piece_at pieces i) up)
+    low i l = omega (arith, most i l, needed-mono s t i (piece_at pieces i) up)
 
     under : (others : List ℕ) → Valid pieces others → (i : ℕ) → i < length pieces → get_or t i 0 ≤ get_or others i 0
     under others valid i l =
         let below : AreAtMost s others = at_most s others (λ k m. h.under others valid k (omega (arith, h.as_many))) in
-        omega (arith, is i l, needed-mono s others i (piece_at pieces i) below, suits-needed others i (piece_at pieces i) (valid.suits i l))
+        omega (
+          arith,
+          most i l,
+          needed-mono s others i (piece_at pieces i) below,
+          suits-needed others i (piece_at pieces i)
+              (valid.suits i l),
+        )
+
+-- low sizes stay low
+pub low_more : (pieces : List Piece) (s t : List ℕ) → IsLow pieces s → length t ≡ length s → AreRaised pieces s t → IsLow pieces t
+low_more pieces s t h long raised = low_some pieces s t h long (at_most s t (λ i l. omega (arith, raised i (omega arith))))
+    (λ i l. omega (arith, raised i (omega (arith, h.as_many)), h.low i l))
 
 -- the first sizes are low
 pub low_first : (pieces : List Piece) (s : List ℕ) → s ≡ map (λ piece. first_size piece) pieces → IsLow pieces s
@@ -77,9 +76,3 @@ low_first pieces s made = record {
   where
     is : (i : ℕ) → i < length pieces → get_or s i 0 ≡ first_size (piece_at pieces i)
     is i l = ap (λ xs. get_or xs i 0) made ∙ get_or-map (λ (piece : Piece). first_size piece) pieces i (Fixed 0) 0 l
-
--- sizes that have positions are not many bytes
-pub few_bytes : (s positions : List ℕ) → ArePositions s positions → sum s ≤ 255 * ITEM_LIMIT
-few_bytes s positions h =
-    let whole : position s (length s) ≡ sum s = ap sum (take_all (length s) s (omega arith)) in
-    omega (arith, whole, h.each (length s) (omega arith), h.bounded (length s))

@@ -1,1 +1,5 @@
 pub mod Positions
+pub mod SegmentTrees
+pub mod Orders
+pub mod Marks
+pub mod Layouts

@@ -4,8 +4,14 @@
 //! sizes between the places.
 #![tactic(auto)]
 
+mod layouts;
+mod marks;
 mod pieces;
+mod segment_trees;
 mod sizes;
+mod spans;
+mod steps;
 
 pub use pieces::{LayoutFault, Piece};
-pub use sizes::settle;
+pub use sizes::{settle, settle_counted};
+pub use steps::{Steps, length_counted};

@@ -1,19 +1,23 @@
-ghost use Rattle.std.specs.Prelude.{◌≡◌, ℕ, ◌+◌, ◌-◌, ◌-ℤ◌, ◌*◌, ◌<◌, ◌≤◌, pos, List, length, max, map, slice_index};
-ghost use Rattle.std.specs.Prelude.{EachIndex, IsTrue, IsFalse, IfOk, IfErr};
+ghost use Rattle.std.specs.Prelude.{◌≡◌, ◌+◌, ◌*◌, ◌<◌, ◌≤◌, List, length, map};
+ghost use Rattle.std.specs.Prelude.{IfOk, IfErr};
 ghost use Rattle.std.specs.List.{sum};
 ghost use Rattle.tn_layout.specs.declared.pieces.Piece.{Piece};
-ghost use Rattle.tn_layout.specs.Sizes.{piece_at, needed, Least, IsExact, OneIsLeast, NamesUpTo, AreNamed, IsLayoutFault};
-ghost use Rattle.tn_layout.specs.Inner.Positions.{ArePositions, first_size};
+ghost use Rattle.tn_layout.specs.Sizes.{Least, IsExact, OneIsLeast, AreNamed, IsLayoutFault};
+ghost use Rattle.tn_layout.specs.Spans.{references, pairs};
+ghost use Rattle.tn_layout.specs.Inner.Positions.{first_size};
 
+use crate::layouts::Layout;
 use crate::pieces::{LayoutFault, Piece};
+use crate::steps::Steps;
 use std::alloc::{AllocError, Global};
-use tn_prefix::length;
+use std::marker::Brand;
+use std::sync::ledger::{Blank, Ledger};
 use tn_text::limits::{CODE_LIMIT, ITEM_LIMIT};
 
 /// The least sizes, in bytes, that keep each fixed piece and hold the operand of each reference.
 /// Each reference then has exactly the length of its operand: no size can be less, since the
 /// order of the pieces fixes the sign of each operand, and no size that grows brings one nearer to 0.
-#[tactic(auto, using(crate::proofs::Sweeps::low_first, crate::proofs::LeastSizes::one_is_least))]
+#[tactic(auto, using(crate::proofs::LeastSizes::one_is_least))]
 pub fn settle(alloc: Global, pieces: &[Piece]) -> Result<Vec<u8>, LayoutFault>
     requires short { length pieces.now ≤ ITEM_LIMIT }
     requires named { AreNamed pieces.now }
@@ -25,13 +29,47 @@ pub fn settle(alloc: Global, pieces: &[Piece]) -> Result<Vec<u8>, LayoutFault>
     ensures total { IfOk result (λ sizes. sum sizes.items ≤ CODE_LIMIT) }
     ensures fault { IfErr result (λ fault. IsLayoutFault pieces.now fault) }
 {
-    let mut sizes = first_sizes(alloc, pieces)?;
-    'sweeps: loop {
-        let starts = positions(alloc, &sizes)?;
-        if !raise(pieces, &starts, &mut sizes) {
-            break;
-        }
-    }
+    settle_uncounted::<Brand>(alloc, pieces, Blank::new(1))
+}
+
+/// The sizes of `settle`, with steps that nothing reads.
+fn settle_uncounted<L: Ledger>(
+    alloc: Global,
+    pieces: &[Piece],
+    blank: Blank,
+) -> Result<Vec<u8>, LayoutFault>
+    requires short { length pieces.now ≤ ITEM_LIMIT }
+    requires named { AreNamed pieces.now }
+    requires name { blank.name ≡ L.name }
+    requires parts { blank.parts ≡ L.parts }
+    requires some { 0 < blank.parts }
+    ensures least { IfOk result (λ sizes. Least pieces.now sizes.items) }
+    ensures exact { IfOk result (λ sizes. IsExact pieces.now sizes.items) }
+    ensures total { IfOk result (λ sizes. sum sizes.items ≤ CODE_LIMIT) }
+    ensures fault { IfErr result (λ fault. IsLayoutFault pieces.now fault) }
+{
+    let mut steps = Steps::<L>::new(blank);
+    settle_counted(alloc, pieces, &mut steps)
+}
+
+/// The sizes of `settle`, and how many lengths of operands it computes: one for each reference, and seven
+/// for each pair of a reference and a reference within its span, at most, whatever it answers.
+#[tactic(auto, using(crate::proofs::LeastSizes::one_is_least))]
+pub fn settle_counted<L: Ledger>(
+    alloc: Global,
+    pieces: &[Piece],
+    steps: &mut Steps<L>,
+) -> Result<Vec<u8>, LayoutFault>
+    requires short { length pieces.now ≤ ITEM_LIMIT }
+    requires named { AreNamed pieces.now }
+    ensures one { (pieces : List Piece) → OneIsLeast pieces }
+    ensures least { IfOk result (λ sizes. Least pieces.now sizes.items) }
+    ensures exact { IfOk result (λ sizes. IsExact pieces.now sizes.items) }
+    ensures total { IfOk result (λ sizes. sum sizes.items ≤ CODE_LIMIT) }
+    ensures fault { IfErr result (λ fault. IsLayoutFault pieces.now fault) }
+    ensures cost { steps.new ≤ steps.old + length (references pieces.now) + 7 * pairs pieces.now }
+{
+    let sizes = grown(alloc, pieces, steps)?;
     let total = total(&sizes);
     if total as usize > CODE_LIMIT {
         return Err(LayoutFault::TooLong(u64::from(total)));
@@ -39,8 +77,25 @@ pub fn settle(alloc: Global, pieces: &[Piece]) -> Result<Vec<u8>, LayoutFault>
     Ok(sizes)
 }
 
+/// The first sizes, grown until each reference has what it needs.
+fn grown<L: Ledger>(
+    alloc: Global,
+    pieces: &[Piece],
+    steps: &mut Steps<L>,
+) -> Result<Vec<u8>, AllocError>
+    requires short { length pieces.now ≤ ITEM_LIMIT }
+    requires named { AreNamed pieces.now }
+    ensures least { IfOk result (λ sizes. Least pieces.now sizes.items) }
+    ensures exact { IfOk result (λ sizes. IsExact pieces.now sizes.items) }
+    ensures cost { steps.new ≤ steps.old + length (references pieces.now) + 7 * pairs pieces.now }
+{
+    let mut layout = Layout::begin(alloc, pieces)?;
+    'looks: while layout.look(pieces, steps)? {}
+    Ok(layout.into_sizes())
+}
+
 /// A size for each piece that is no larger than any that is right.
-fn first_sizes(alloc: Global, pieces: &[Piece]) -> Result<Vec<u8>, AllocError>
+pub fn first_sizes(alloc: Global, pieces: &[Piece]) -> Result<Vec<u8>, AllocError>
     ensures { IfOk result (λ sizes. sizes.items ≡ map (λ piece. first_size piece) pieces.now) }
 {
     pieces.iter().map(first_size).collect(alloc)
@@ -56,21 +111,6 @@ fn first_size(piece: &Piece) -> u8
     }
 }
 
-/// The position of each place: the sum of the sizes before it.
-fn positions(alloc: Global, sizes: &[u8]) -> Result<Vec<u32>, AllocError>
-    requires { length sizes.now ≤ ITEM_LIMIT }
-    ensures { IfOk result (λ positions. ArePositions sizes.now positions.items) }
-{
-    let mut positions = Vec::new(alloc);
-    let mut end: u32 = 0;
-    positions.push(end)?;
-    for size in sizes {
-        end += u32::from(*size);
-        positions.push(end)?;
-    }
-    Ok(positions)
-}
-
 /// The sum of all sizes.
 fn total(sizes: &[u8]) -> u32
     requires { length sizes.now ≤ ITEM_LIMIT }
@@ -81,50 +121,4 @@ fn total(sizes: &[u8]) -> u32
         total += u32::from(*size);
     }
     total
-}
-
-/// Raises each size that is less than its piece needs at these positions, and says whether there
-/// was one.
-fn raise(pieces: &[Piece], positions: &[u32], sizes: &mut [u8]) -> bool
-    requires as_many { length sizes.old ≡ length pieces.now }
-    requires named { AreNamed pieces.now }
-    requires positions { ArePositions sizes.old positions.now }
-    ensures raised { EachIndex sizes.new (λ k.
-        slice_index sizes.new k ≡ max (slice_index sizes.old k) (needed sizes.old k (piece_at pieces.now k))) }
-    ensures still { IsFalse result → sizes.new ≡ sizes.old }
-    ensures grown { IsTrue result → sum sizes.old < sum sizes.new }
-{
-    let mut raised = false;
-    for (i, piece) in pieces.iter().enumerate() {
-        let size = needed(positions, i, piece);
-        if sizes[i] < size {
-            sizes[i] = size;
-            raised = true;
-        }
-    }
-    raised
-}
-
-/// How many bytes the piece at a place needs at these positions.
-fn needed(positions: &[u32], i: usize, piece: &Piece) -> u8
-    requires here { i + 1 < length positions.now }
-    requires named { NamesUpTo (length positions.now - 1) piece.now }
-    requires bounded { (k : ℕ) → slice_index positions.now k ≤ 255 * ITEM_LIMIT }
-    ensures { (sizes : List ℕ) → ArePositions sizes positions.now → result ≡ needed sizes i piece.now }
-{
-    match *piece {
-        Piece::Fixed(size) => size,
-        Piece::Rel { to } => length(distance(positions, to as usize, i + 1)),
-        Piece::Diff { high, low } => length(distance(positions, high as usize, low as usize)),
-    }
-}
-
-/// How far the position of one place lies behind that of another.
-fn distance(positions: &[u32], high: usize, low: usize) -> i32
-    requires high { high < length positions.now }
-    requires low { low < length positions.now }
-    requires bounded { (k : ℕ) → slice_index positions.now k ≤ 255 * ITEM_LIMIT }
-    ensures { result ≡ pos (slice_index positions.now high) -ℤ pos (slice_index positions.now low) }
-{
-    positions[high] as i32 - positions[low] as i32
 }

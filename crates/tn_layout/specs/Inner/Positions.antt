@@ -1,4 +1,4 @@
--- The positions of all places, as the code holds them, and the sizes that it begins with.
+-- The positions of all places, as code that needs them holds them, and the sizes that a layout begins with.
 use Rattle.std.specs.Prelude.{◌≡◌, ℕ, ◌+◌, ◌*◌, ◌≤◌, List, length, slice_index}
 use Rattle.tn_text.specs.declared.limits.TheConstants.{ITEM_LIMIT}
 use Rattle.tn_layout.specs.declared.pieces.Piece.{Piece}
