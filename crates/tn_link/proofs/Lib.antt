@@ -6,3 +6,4 @@ pub mod Fitness
 pub mod Shortest
 pub mod Listed
 pub mod ExportedLabels
+pub mod Adjacent

@@ -2,4 +2,5 @@ pub mod Places
 pub mod Programs
 pub mod Cells
 pub mod Linking
+pub mod PieceLookUps
 pub mod Inner

@@ -8,6 +8,7 @@ mod cells;
 mod code;
 mod counts;
 mod linking;
+mod piece_look_ups;
 mod placing;
 mod programs;
 mod tables;

@@ -12,6 +12,7 @@ ghost use Rattle.tn_link.specs.Places.{item_count, cells_end, exported_label};
 ghost use Rattle.tn_link.specs.Programs.{program, pieces};
 ghost use Rattle.tn_link.specs.Cells.{frame, address};
 ghost use Rattle.tn_link.specs.Linking.{IsBase, AreLinkable, IsLinked, IsLinkFault};
+ghost use Rattle.tn_link.specs.PieceLookUps.{AreAdjacent};
 ghost use Rattle.tn_link.specs.Inner.Elements.{AreFit};
 ghost use Rattle.tn_link.specs.Inner.Frames.{IsFrame};
 ghost use Rattle.tn_link.specs.Inner.Lengths.{IsLengthFault};
@@ -104,6 +105,7 @@ impl From<NoMemory> for LinkFault {
 /// end, a difference is that of two positions, and a name that is used by its word is the number of
 /// words that its address lies above the lowest. Each operand has as few bytes as all of them can
 /// have at once. The cells of each module begin at the next multiple of 4, with zero bytes between.
+/// Each item begins where the one before it ends.
 ///
 /// The fault is `Items`, then `Cells`, then `Code`, each where its count is above its limit.
 #[tactic(auto, using(tn_layout::proofs::LeastSizes::one_is_least))]
@@ -119,6 +121,7 @@ pub fn link(
     requires aligned { cell_base % 4 ≡ 0 }
     ensures one { (pieces : List Piece) → OneIsLeast pieces }
     ensures linked { IfOk result (λ linked. IsLinked chosen.now.modules.items code_base cell_base linked) }
+    ensures adjacent { IfOk result (λ linked. AreAdjacent linked.placed.items) }
     ensures shortest { IfOk result (λ linked. (sizes : List ℕ)
         → Valid (pieces (program chosen.now.modules.items cell_base)) sizes → length linked.code.items ≤ sum sizes) }
     ensures fault { IfErr result (λ fault. IsLinkFault chosen.now.modules.items cell_base fault) }

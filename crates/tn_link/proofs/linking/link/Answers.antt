@@ -4,6 +4,8 @@ use Rattle.tn_module.specs.Modules.{Parts}
 use Rattle.tn_text.proofs.Results.{of-error}
 use Rattle.tn_link.specs.declared.linking.LinkFault.{LinkFault}
 use Rattle.tn_link.specs.Linking.{IsLinked, IsLinkFault}
+use Rattle.tn_link.specs.PieceLookUps.{AreAdjacent}
+use Rattle.tn_link.proofs.Adjacent.{linked-adjacent}
 use Rattle.tn_link.proofs.Shortest.{IsShortest, shortest}
 use Rattle.tn_link.proofs.linking.link.Goals as goal
 
@@ -20,3 +22,9 @@ returns-clause-shortest c =
     (IfOk-weaker c.link_modules.result (IsLinked c.deref-modules.result.now c.args.code_base c.args.cell_base)
     (IsShortest c.deref-modules.result.now c.args.cell_base)
     (λ linked k. shortest c.deref-modules.result.now c.args.code_base c.args.cell_base linked k) c.link_modules.ensures.linked)
+
+pub returns-clause-adjacent : goal.returns-clause-adjacent
+returns-clause-adjacent c =
+    IfOk-weaker c.link_modules.result (IsLinked c.deref-modules.result.now c.args.code_base c.args.cell_base)
+    (λ linked. AreAdjacent linked.placed.items)
+    (λ linked k. linked-adjacent c.deref-modules.result.now c.args.code_base c.args.cell_base linked k) c.link_modules.ensures.linked
