@@ -16,3 +16,4 @@ pub mod Admitted
 pub mod FileLines
 pub mod ReadBack
 pub mod WriterLaws
+pub mod GridLaws

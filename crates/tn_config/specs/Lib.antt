@@ -10,3 +10,4 @@ pub mod Inner
 pub mod Networks
 pub mod Spellings
 pub mod Writable
+pub mod Grids

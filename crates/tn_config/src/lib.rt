@@ -4,6 +4,7 @@
 
 mod configurations;
 mod drafts;
+mod grids;
 mod keywords;
 mod networks;
 mod places;
@@ -12,6 +13,7 @@ mod statements;
 mod writers;
 
 pub use configurations::{Block, BlockLines, Config, HostLine, WireLine};
+pub use grids::{GRID_MOST, GridTexts, grid};
 pub use networks::raw_network;
 pub use readers::read_config;
 pub use writers::write_config;
