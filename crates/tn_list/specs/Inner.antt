@@ -1,1 +1,2 @@
 pub mod PrintedOutLaws
+pub mod Printing

@@ -1,0 +1,28 @@
+use Rattle.std.proofs.Common.{◌≡◌, ◌∷◌, [], refl, ap, ◌∙◌, codes}
+use Rattle.std.specs.Fmt.{decimal}
+use Rattle.tn_text.specs.WordTexts.{word_text}
+use Rattle.tn_list.specs.Stretches.{code_of}
+use Rattle.tn_list.specs.ListingTexts.{line_of, code_lines, code_text}
+use Rattle.tn_list.proofs.PrintingLaws.{Lists-as, Lists-joined, Lists-stopped}
+use Rattle.tn_list.proofs.listings.print_code.Goals as goal
+
+pub returns-in-Ok-clause-lists : goal.returns-in-Ok-clause-lists
+unfolding code_text
+returns-in-Ok-clause-lists g c =
+    Lists-joined
+    (Lists-as (ap (λ n. line_of (codes "code") (word_text c.args.linked.now.code_base ∷ decimal n ∷ []))
+    (c.len.ensures ∙ c.args.linked.now.code.ok.0))
+    (c.in-Ok.ensures.lists (line_of (codes "code") (word_text c.args.linked.now.code_base ∷ decimal c.len.result ∷ []))
+    c.extent_line-line.ensures))
+    (Lists-as
+    (λ j. code_lines c.args.linked.now.code_base (c.deref.ensures.value j) c.args.modules.now (c.deref-in-Ok.ensures.value j))
+    c.print_code_of.ensures.lists)
+
+pub returns-in-Err-clause-lists : goal.returns-in-Err-clause-lists
+unfolding code_text
+returns-in-Err-clause-lists g c =
+    Lists-stopped (code_lines c.args.linked.now.code_base c.args.linked.now.code.items c.args.modules.now c.args.linked.now.placed.items)
+    (Lists-as (ap (λ n. line_of (codes "code") (word_text c.args.linked.now.code_base ∷ decimal n ∷ []))
+    (c.len.ensures ∙ c.args.linked.now.code.ok.0))
+    (c.in-Err.ensures.lists (line_of (codes "code") (word_text c.args.linked.now.code_base ∷ decimal c.len.result ∷ []))
+    c.extent_line-line.ensures))
