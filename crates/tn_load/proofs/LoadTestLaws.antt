@@ -22,8 +22,8 @@ use Rattle.tn_network.specs.Boards.{BoardState, latch_at}
 use Rattle.tn_network.specs.NodeOps.{stands_at}
 use Rattle.tn_network.specs.Loads.{PlacedBytes, Target, StandsIn, IsLoadedNode, AreLoadedNodes, IsLoaded}
 use Rattle.tn_network.proofs.WireLaws.{both}
-use Rattle.tn_load.specs.Inner.LoadTests.{is_done, is_empty_at, holds_word, has_pointers, has_stack, are_shut, gave, has_no_timers}
-use Rattle.tn_load.specs.Inner.LoadTests.{is_placed, is_started, is_loaded_node}
+use Rattle.tn_load.specs.LoadTests.{is_done, is_empty_at, holds_word, has_pointers, has_stack, are_shut, gave, has_no_timers}
+use Rattle.tn_load.specs.LoadTests.{is_placed, is_started, is_loaded_node, are_loaded_nodes, is_loaded}
 
 -- ---- tests
 
@@ -344,3 +344,62 @@ all-loaded s targets done latches nodes =
       latches = latches;
       nodes = nodes;
     }
+
+-- ---- the test of a whole board
+
+nodes-told : (nodes : List (NodeState (List ℕ))) (targets : List Target) → are_loaded_nodes nodes targets ≡ true
+    → AreLoadedNodes (λ m. m) nodes targets
+unfolding are_loaded_nodes
+nodes-told [] [] e = tt
+nodes-told [] (t ∷ targets) e = absurd (let clash : false ≡ true = e in cc)
+nodes-told (n ∷ nodes) [] e = absurd (let clash : false ≡ true = e in cc)
+nodes-told (n ∷ nodes) (t ∷ targets) e =
+    let parts = both (is_loaded_node t n) (are_loaded_nodes nodes targets) e in
+    (node-told t n parts.0, nodes-told nodes targets parts.1)
+
+nodes-are : (nodes : List (NodeState (List ℕ))) (targets : List Target) → AreLoadedNodes (λ m. m) nodes targets
+    → are_loaded_nodes nodes targets ≡ true
+unfolding are_loaded_nodes
+nodes-are [] [] all = refl
+nodes-are [] (t ∷ targets) all = absurd all
+nodes-are (n ∷ nodes) [] all = absurd all
+nodes-are (n ∷ nodes) (t ∷ targets) all =
+    and-true (is_loaded_node t n) (are_loaded_nodes nodes targets) (node-is t n all.0) (nodes-are nodes targets all.1)
+
+latches-told : (latches : List (Option ℕ)) → list_all is_none latches ≡ true → All (λ byte. byte ≡ None) latches
+latches-told [] e = λ k d low. absurd (omega (arith, low))
+latches-told (x ∷ latches) e =
+    let parts = both (is_none x) (list_all is_none latches) e in
+    All-cons (λ byte. byte ≡ None) x latches (none-true x parts.0) (latches-told latches parts.1)
+
+latches-are : (latches : List (Option ℕ)) → All (λ byte. byte ≡ None) latches → list_all is_none latches ≡ true
+latches-are [] all = refl
+latches-are (x ∷ latches) all =
+    and-true (is_none x) (list_all is_none latches) (none-is x (All-head (λ byte. byte ≡ None) x latches all))
+    (latches-are latches (All-tail (λ byte. byte ≡ None) x latches all))
+
+pub board-told : (s : BoardState (NodeState (List ℕ))) (targets : List Target) → is_loaded s targets ≡ true
+    → IsLoaded (λ m. m) s targets
+board-told s targets e =
+    let one = both (is_done s.host) (list_all is_none s.latches && are_loaded_nodes s.nodes targets) e in
+    let two = both (list_all is_none s.latches) (are_loaded_nodes s.nodes targets) one.1 in
+    all-loaded s targets one.0 (latches-told s.latches two.0) (nodes-told s.nodes targets two.1)
+
+pub board-is : (s : BoardState (NodeState (List ℕ))) (targets : List Target) → IsLoaded (λ m. m) s targets
+    → is_loaded s targets ≡ true
+board-is s targets h =
+    let left : length s.host.left == 0 ≡ true = same-number (length s.host.left) 0 (ap length h.left) in
+    let done : is_done s.host ≡ true = and-true _ _ left (and-true _ _ (not-false _ h.sent) (none-is _ h.host_latch)) in
+    and-true (is_done s.host) (list_all is_none s.latches && are_loaded_nodes s.nodes targets) done
+    (and-true (list_all is_none s.latches) (are_loaded_nodes s.nodes targets) (latches-are s.latches h.latches)
+    (nodes-are s.nodes targets h.nodes))
+
+-- the answer of a test that tells exactly whether a board is loaded
+pub tested-is : (b : Bool) (s : BoardState (NodeState (List ℕ))) (targets : List Target) → (b ≡ true → IsLoaded (λ m. m) s targets)
+    → (IsLoaded (λ m. m) s targets → b ≡ true) → b ≡ is_loaded s targets
+tested-is true s targets to from = sym (board-is s targets (to refl))
+tested-is false s targets to from = go (is_loaded s targets) refl
+  where
+    go : (l : Bool) → is_loaded s targets ≡ l → false ≡ l
+    go false e = refl
+    go true e = from (board-told s targets e)

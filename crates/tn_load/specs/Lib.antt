@@ -6,6 +6,7 @@ pub mod UnderWay
 pub mod Keep
 pub mod Exchange
 pub mod Targets
+pub mod LoadTests
 pub mod Boots
 pub mod Settles
 pub mod NetWalks

@@ -6,8 +6,8 @@ ghost use Rattle.tn_network.specs.NodeOps.{is_running, stands_at};
 ghost use Rattle.tn_network.specs.Loads.{AreLoadedNodes, IsLoaded};
 ghost use Rattle.tn_stream.specs.Images.{segments_of, image_of, images_of};
 ghost use Rattle.tn_load.specs.Targets.{placed_all, target_of, targets_of};
-ghost use Rattle.tn_load.specs.Inner.LoadTests.{HasLatches, is_done, is_empty_at, holds_word, has_pointers};
-ghost use Rattle.tn_load.specs.Inner.LoadTests.{is_shut, are_shut, gave, has_no_timers, is_placed, is_started, is_loaded_node};
+ghost use Rattle.tn_load.specs.LoadTests.{HasLatches, is_done, is_empty_at, holds_word, has_pointers};
+ghost use Rattle.tn_load.specs.LoadTests.{is_shut, are_shut, gave, has_no_timers, is_placed, is_started, is_loaded_node};
 
 use tn_cpu::Reg;
 use tn_mem::{Memory, Space, Touch};

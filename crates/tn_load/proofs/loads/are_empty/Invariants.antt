@@ -1,5 +1,5 @@
 use Rattle.std.proofs.Common.{◌≡◌, ℕ, ◌<◌, true}
-use Rattle.tn_load.specs.Inner.LoadTests.{is_empty_at}
+use Rattle.tn_load.specs.LoadTests.{is_empty_at}
 use Rattle.tn_load.proofs.loads.are_empty.Given as goal
 
 abbrev pub invariant-loop-p : goal.invariant-loop-p

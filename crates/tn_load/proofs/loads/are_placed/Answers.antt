@@ -3,7 +3,7 @@ use Rattle.std.specs.Str.{bytes_eq}
 use Rattle.tn_mem.specs.Memories.{block}
 use Rattle.tn_stream.specs.Images.{segment_of}
 use Rattle.tn_load.specs.Targets.{placed}
-use Rattle.tn_load.specs.Inner.LoadTests.{is_placed}
+use Rattle.tn_load.specs.LoadTests.{is_placed}
 use Rattle.tn_load.proofs.LoadTestLaws.{fails-one}
 use Rattle.tn_load.proofs.loads.are_placed.Goals as goal
 

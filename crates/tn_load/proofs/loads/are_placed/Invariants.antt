@@ -2,7 +2,7 @@ use Rattle.std.proofs.Common.{◌≡◌, true, take}
 use Rattle.std.specs.List.{list_all}
 use Rattle.tn_stream.specs.Images.{segments_of}
 use Rattle.tn_load.specs.Targets.{placed_all}
-use Rattle.tn_load.specs.Inner.LoadTests.{is_placed}
+use Rattle.tn_load.specs.LoadTests.{is_placed}
 use Rattle.tn_load.proofs.loads.are_placed.Given as goal
 
 abbrev pub invariant-loop-segment : goal.invariant-loop-segment

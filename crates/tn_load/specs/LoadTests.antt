@@ -1,5 +1,5 @@
 -- The tests of a loaded network.
-use Rattle.std.specs.Prelude.{◌≡◌, ℕ, ◌*◌, ◌==◌, Bool, false, not, ◌&&◌, List, length, Option, is_none, Result, Ok, Err}
+use Rattle.std.specs.Prelude.{◌≡◌, ℕ, ◌*◌, ◌==◌, Bool, true, false, not, ◌&&◌, List, [], ◌∷◌, length, Option, is_none, Result, Ok, Err}
 use Rattle.std.specs.List.{list_all}
 use Rattle.std.specs.Str.{bytes_eq}
 use Rattle.tn_word.specs.Words.{not_process}
@@ -11,7 +11,7 @@ use Rattle.tn_node.specs.declared.engines.LinkView.{LinkView}
 use Rattle.tn_node.specs.Engines.{engine_of}
 use Rattle.tn_node.specs.Nodes.{NodeState}
 use Rattle.tn_network.specs.Hosts.{HostState}
-use Rattle.tn_network.specs.Boards.{WiredBoard, latch_at}
+use Rattle.tn_network.specs.Boards.{BoardState, WiredBoard, latch_at}
 use Rattle.tn_network.specs.NodeOps.{stands_at}
 use Rattle.tn_network.specs.Loads.{PlacedBytes, Target}
 
@@ -74,3 +74,14 @@ is_started t n = has_pointers t n && (has_stack t n && (are_shut n && has_no_tim
 
 abbrev pub is_loaded_node : Target → NodeState (List ℕ) → Bool
 is_loaded_node t n = is_started t n && list_all (λ piece. is_placed n.cpu.memory piece) t.pieces
+
+-- each of the processors is, there being as many targets
+unfoldable pub are_loaded_nodes : List (NodeState (List ℕ)) → List Target → Bool
+are_loaded_nodes [] [] = true
+are_loaded_nodes [] (t ∷ targets) = false
+are_loaded_nodes (n ∷ nodes) [] = false
+are_loaded_nodes (n ∷ nodes) (t ∷ targets) = is_loaded_node t n && are_loaded_nodes nodes targets
+
+-- the whole board is
+abbrev pub is_loaded : BoardState (NodeState (List ℕ)) → List Target → Bool
+is_loaded s targets = is_done s.host && (list_all is_none s.latches && are_loaded_nodes s.nodes targets)
