@@ -1,0 +1,14 @@
+pub mod Covering
+pub mod Bytes
+pub mod Engines
+pub mod Processors
+pub mod Nodes
+pub mod NetsBeside
+pub mod Wholes
+pub mod Beginnings
+pub mod Lists
+pub mod Elements
+pub mod LinkedCode
+pub mod Sameness
+pub mod Runs
+pub mod Beginning

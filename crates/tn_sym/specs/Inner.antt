@@ -1,0 +1,5 @@
+pub mod Covers
+pub mod Items
+pub mod Beside
+pub mod NetsBeside
+pub mod Wholes
