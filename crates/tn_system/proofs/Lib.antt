@@ -5,9 +5,11 @@ pub mod Choosing
 pub mod Reading
 pub mod Telling
 pub mod Making
-pub mod Processors
+pub mod Programs
+pub mod EachProcessor
 pub mod FromTexts
 pub mod OneNetwork
 pub mod OneTree
 pub mod FirstFaults
 pub mod OneAnswer
+pub mod Executing

@@ -23,18 +23,22 @@ use Rattle.tn_symbols.specs.Inner.Sourcing.{IsHere}
 use Rattle.tn_symbols.proofs.Sourcing.{choice-here, choice-few, here-short}
 use Rattle.tn_symbols.proofs.OneChoice.{one_is_chosen}
 use Rattle.tn_symbols.proofs.FirstFaults.{exports-past, imports-past}
-use Rattle.tn_link.specs.Linking.{AreLinkable}
+use Rattle.tn_link.specs.Linking.{AreLinkable, IsLinked}
 use Rattle.tn_config.specs.Configurations.{BlockState}
 use Rattle.tn_stream.specs.Images.{ImageBytes}
 use Rattle.tn_image.specs.declared.images.ImageFault.{ImageFault}
-use Rattle.tn_image.specs.Images.{IsImageFor, IsImageFault}
+use Rattle.tn_image.specs.Images.{IsInRange, IsImageFor, IsImageFault}
+use Rattle.tn_sym.specs.declared.programs.Program.{Program}
+use Rattle.tn_sym.specs.ProgramStates.{program_of}
+use Rattle.tn_sym.specs.Programs.{AreModules}
 use Rattle.tn_system.specs.declared.systems.SystemFault.{SystemFault}
 use Rattle.tn_system.specs.Sources.{parts_of}
-use Rattle.tn_system.specs.Systems.{IsImageOf}
+use Rattle.tn_system.specs.Systems.{IsImageOf, AreLinkableAt, IsProgramOf, BelongTogether}
 use Rattle.tn_system.specs.Faults.{import_fault as told_import, export_fault as told_export}
 use Rattle.tn_system.specs.Faults.{symbol_fault, image_fault, IsSymbolFault, IsModulesFault}
 use Rattle.tn_system.specs.Inner.Offers.{text_of, OfChoice, IsOfferOf}
 use Rattle.tn_system.proofs.Choosing.{parts-same}
+use Rattle.tn_system.proofs.Programs.{linkable-at, together}
 
 -- ---- modules
 
@@ -58,6 +62,12 @@ linkable o is sources modules choice copies defined = record {
 
 -- ---- images
 
+-- an image and the program that it is made of belong together
+pub made-together : (b : BlockState) (modules : List Parts) (i : ImageBytes) (g : Program) → IsImageFor modules b i
+    → IsLinked modules b.code b.cells g.linked → BelongTogether (program_of g) i
+made-together b modules i g image is =
+    together b modules i image (program_of g) (record { linked = g.linked; is_linked = is; seen = refl })
+
 module _ (o : Offer) (b : BlockState) (sources : List Source) (modules : List Parts) (choice : IsChoice o sources)
     (copies : modules ≡ modules_of o sources) (sound : AreSound modules) where
   same : parts_of (map (text_of o b) sources) ≡ modules
@@ -68,6 +78,24 @@ module _ (o : Offer) (b : BlockState) (sources : List Source) (modules : List Pa
     sources = sources;
     choice = choice;
     holds = record { sound = subst AreSound (sym same) sound; image = subst (λ l. IsImageFor l b i) (sym same) is };
+  }
+
+  -- and the program beside it
+  pub program-made : (i : ImageBytes) (g : Program) → IsInRange b → AreModules modules → AreLinkable modules → g.chosen.modules.items ≡ modules
+      → IsImageFor modules b i → IsLinked modules b.code b.cells g.linked → OfChoice o b (IsProgramOf b (program_of g))
+  program-made i g range valid linkable modules_are image is = record {
+    sources = sources;
+    choice = choice;
+    holds = record {
+      sound = subst AreSound (sym same) sound;
+      linkable = subst (AreLinkableAt b) (sym same) (linkable-at b modules i image range valid linkable);
+      modules_are = modules_are ∙ sym same;
+      linked = record {
+        linked = g.linked;
+        is_linked = subst (λ l. IsLinked l b.code b.cells g.linked) (sym same) is;
+        seen = refl;
+      };
+    };
   }
 
   pub failed : (config_file : List ℕ) (found : ImageFault) (fault : SystemFault) → IsImageFault modules b found

@@ -17,15 +17,17 @@ use Rattle.tn_image.specs.declared.images.ImageFault.{ImageFault}
 use Rattle.tn_image.specs.declared.images.ImageFault.TheVariants as image
 use Rattle.tn_image.specs.Images.{IsImageFault, IsRight, OneIsRight}
 use Rattle.tn_image.proofs.OneAnswer.{one_is_right}
+use Rattle.tn_sym.specs.ProgramStates.{ProgramState}
 use Rattle.tn_system.specs.declared.systems.SystemFault.{SystemFault}
 use Rattle.tn_system.specs.declared.systems.SystemFault.TheVariants as system
 use Rattle.tn_system.specs.Sources.{Sources, TextModule, parts_of, named, stock, text_module_at, IsChosenFor, OfChosen}
-use Rattle.tn_system.specs.Systems.{SystemState, IsImageOf, IsProcessorImage, IsSystem}
+use Rattle.tn_system.specs.Systems.{SystemState, IsImageOf, IsProcessorImage, IsProgramOf, IsProcessorProgram, IsSystem}
 use Rattle.tn_system.specs.Faults.{symbol_fault, image_fault, unreachable, HasImage, IsCheckFault, IsModulesFault}
 use Rattle.tn_system.specs.Faults.{IsProcessorFault, IsDescriptionFault, IsReachFault, IsSystemFault, at_processor, at_network, at_tree}
 use Rattle.tn_system.specs.Answers.{OneAnswers}
 use Rattle.tn_system.proofs.FirstFaults.{one-fault, sound-or-fault}
-use Rattle.tn_system.proofs.Processors.{have-images}
+use Rattle.tn_system.proofs.EachProcessor.{have-images}
+use Rattle.tn_system.proofs.Programs.{one-program}
 use Rattle.tn_system.proofs.OneTree.{one-tree}
 use Rattle.tn_system.proofs.OneNetwork.{one-network, one-unreachable, tree-reaches}
 
@@ -89,6 +91,9 @@ module _ (s : Sources) where
     pub one-processor-image : (i j : ImageBytes) → IsProcessorImage s b i → IsProcessorImage s b j → i ≡ j
     one-processor-image i j x y = of-both (IsImageOf b i) (IsImageOf b j) x y (λ ms p q. one-image s.config_file b ms i j p q)
 
+    pub one-processor-program : (g h : ProgramState) → IsProcessorProgram s b g → IsProcessorProgram s b h → g ≡ h
+    one-processor-program g h x y = of-both (IsProgramOf b g) (IsProgramOf b h) x y (λ ms p q. one-program b ms g h p q)
+
     refused : (f : SystemFault) → HasImage s b → OfChosen s b (IsModulesFault s.config_file b f) → ⊥
     refused f x y = of-both (IsImageOf b x.0) (IsModulesFault s.config_file b f) x.1 y
         (λ ms p q. image-or-fault s.config_file b ms x.0 f p q)
@@ -98,16 +103,17 @@ module _ (s : Sources) where
     one-refusal f g x y = of-both (IsModulesFault s.config_file b f) (IsModulesFault s.config_file b g) x y
         (λ ms p q. one-modules-fault s.config_file b ms f g p q)
 
-  one-images : (bs : List BlockState) (xs ys : List ImageBytes) → AllZip (IsProcessorImage s) bs xs → AllZip (IsProcessorImage s) bs ys
-      → xs ≡ ys
-  one-images [] [] [] x y = refl
-  one-images [] [] (j ∷ ys) x y = absurd y
-  one-images [] (i ∷ xs) ys x y = absurd x
-  one-images (b ∷ bs) [] ys x y = absurd x
-  one-images (b ∷ bs) (i ∷ xs) [] x y = absurd y
-  one-images (b ∷ bs) (i ∷ xs) (j ∷ ys) x y =
-      let first : i ≡ j = one-processor-image b i j x.0 y.0 in
-      let rest : xs ≡ ys = one-images bs xs ys x.1 y.1 in λ k. first k ∷ rest k
+  -- what each has is one thing where each has one
+  one-each : {X : Type 0} (P : BlockState → X → Type 0) → ((b : BlockState) (x y : X) → P b x → P b y → x ≡ y) → (bs : List BlockState)
+      (xs ys : List X) → AllZip P bs xs → AllZip P bs ys → xs ≡ ys
+  one-each P one [] [] [] x y = refl
+  one-each P one [] [] (j ∷ ys) x y = absurd y
+  one-each P one [] (i ∷ xs) ys x y = absurd x
+  one-each P one (b ∷ bs) [] ys x y = absurd x
+  one-each P one (b ∷ bs) (i ∷ xs) [] x y = absurd y
+  one-each {X} P one (b ∷ bs) (i ∷ xs) (j ∷ ys) x y =
+      let first : i ≡ j = one b i j x.0 y.0 in
+      let rest : xs ≡ ys = one-each P one bs xs ys x.1 y.1 in λ k. first k ∷ rest k
 
   -- where all have images, none is refused
   none-refused : (f : SystemFault) → All (HasImage s) s.config.blocks → IsProcessorFault s f → ⊥
@@ -181,11 +187,12 @@ module _ (s : Sources) where
 
   pub one_system : (y z : SystemState) → IsSystem s y → IsSystem s z → y ≡ z
   one_system y z a b =
-      let images = one-images s.config.blocks y.images z.images a.images b.images in
+      let images = one-each (IsProcessorImage s) one-processor-image s.config.blocks y.images z.images a.images b.images in
+      let programs = one-each (IsProcessorProgram s) one-processor-program s.config.blocks y.programs z.programs a.programs b.programs in
       let network = one-network (described s.config) y.network z.network a.network b.network a.pairing b.pairing in
       let nodes = one-tree y.network y.nodes z.nodes (length s.config.blocks) (count-is y a) a.tree a.whole
       (subst (λ n. IsLoadTree n z.nodes) (sym network) b.tree) b.whole in
-      λ j. record { images = images j; network = network j; nodes = nodes j }
+      λ j. record { images = images j; programs = programs j; network = network j; nodes = nodes j }
 
   pub one_answers : IsAdmitted (described s.config) → OneAnswers s
   one_answers admitted = record { systems = one_system; faults = one_system_fault admitted; either = system_or_fault }

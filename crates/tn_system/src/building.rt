@@ -15,7 +15,7 @@ ghost use Rattle.tn_system.specs.Answers.{OneAnswers};
 ghost use Rattle.tn_system.specs.Faults.{unreachable, IsSystemFault, IfFault};
 
 use crate::files::NamedFiles;
-use crate::images::images;
+use crate::processors::{Processors, make_processors};
 use crate::systems::{System, SystemFault};
 use std::alloc::Global;
 use tn_config::{Block, Config, raw_network};
@@ -23,11 +23,13 @@ use tn_module::{Library, Module};
 use tn_net::{Network, Tree, TreeFault, load_tree};
 use tn_text::{Detail, Fault, FaultCode, FileName, ReadFault};
 
-/// The images of all processors of a configuration, the network, and the tree by which it loads.
+/// The images and programs of all processors of a configuration, the network, and the tree by which it
+/// loads.
 ///
 /// These are the modules of `files.modules`, and the libraries of `files.libraries`, in their order. A
 /// processor's modules are those that it names and those of its libraries that these need; it has
-/// the image that `image` of tn_image makes of them.
+/// the image that `image` of tn_image makes of them, and its program is these modules as they are
+/// linked there.
 ///
 /// The fault is the first of these. For each processor in order: that of the names of its modules, at
 /// the line of the import or export in the file of the module, as `UndefinedSymbol`,
@@ -52,8 +54,15 @@ pub fn system(
     ensures whole { IfOk result (λ found. IsWholeTree found.tree.nodes.items (length found.images.items)) }
     ensures fault { IfErr result (λ fault. IfFault fault (IsSystemFault (sources config_file.now config.now pool.now shelf.now))) }
 {
-    let images = match images(alloc, config_file, config, files, pool, shelf) {
-        Ok(images) => images,
+    let Processors { images, programs } = match make_processors(
+        alloc,
+        config_file,
+        config,
+        files,
+        pool,
+        shelf,
+    ) {
+        Ok(made) => made,
         Err(fault) => return Err(fault),
     };
     let network = match network(alloc, config_file, config) {
@@ -63,6 +72,7 @@ pub fn system(
     match tree(alloc, config_file, config, &network) {
         Ok(tree) => Ok(System {
             images,
+            programs,
             network,
             tree,
         }),

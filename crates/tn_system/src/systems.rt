@@ -1,6 +1,7 @@
 use std::alloc::AllocFailed;
 use tn_net::{Network, Tree};
 use tn_stream::Image;
+use tn_sym::Program;
 use tn_text::limits::Limit;
 use tn_text::{Fault, FileName};
 
@@ -9,6 +10,8 @@ use tn_text::{Fault, FileName};
 pub struct System {
     /// The images of the processors, in the order of the configuration.
     pub images: Vec<Image>,
+    /// The programs that the images are made of, in the same order.
+    pub programs: Vec<Program>,
     pub network: Network,
     /// The order in which they are loaded.
     pub tree: Tree,

@@ -14,7 +14,7 @@ use Rattle.tn_system.specs.Sources.{sources}
 use Rattle.tn_system.specs.Systems.{IsProcessorImage}
 use Rattle.tn_system.specs.Faults.{unreachable, IsSystemFault, at_network, at_tree}
 use Rattle.tn_system.proofs.Telling.{if-weaker}
-use Rattle.tn_system.proofs.Processors.{have-images}
+use Rattle.tn_system.proofs.EachProcessor.{have-images}
 use Rattle.tn_system.proofs.building.system.Goals as goal
 
 pub returns-in-Err-network-clause-fault : goal.returns-in-Err-network-clause-fault
@@ -24,7 +24,7 @@ returns-in-Err-network-clause-fault c =
     × (fault.Fault c.args.config_file.now found ≡ told))
     (IsSystemFault s) c.in-Err-network.fault
     (λ told h. at_network (record {
-      passed = have-images s (config_of c.args.config.now).blocks (images_of c.in-Ok.images.items) c.in-Ok.ensures.made;
+      passed = have-images s (config_of c.args.config.now).blocks (images_of c.in-Ok.made.images.items) c.in-Ok.ensures.made;
       found = h.0;
       first = h.1;
       told = h.2;
@@ -33,10 +33,10 @@ returns-in-Err-network-clause-fault c =
 pub returns-in-Ok-tree-clause-whole : goal.returns-in-Ok-tree-clause-whole
 returns-in-Ok-tree-clause-whole c =
     let s = sources c.args.config_file.now c.args.config.now c.args.pool.now c.args.shelf.now in
-    let count = AllZip-long (IsProcessorImage s) (config_of c.args.config.now).blocks (images_of c.in-Ok.images.items)
+    let count = AllZip-long (IsProcessorImage s) (config_of c.args.config.now).blocks (images_of c.in-Ok.made.images.items)
     c.in-Ok.ensures.made in
     subst (IsWholeTree c.in-Ok-tree.tree.nodes.items)
-    (sym (length-map c.args.config.now.blocks.items block_of) ∙ sym count ∙ length-map c.in-Ok.images.items image_of)
+    (sym (length-map c.args.config.now.blocks.items block_of) ∙ sym count ∙ length-map c.in-Ok.made.images.items image_of)
     c.in-Ok-tree.ensures.whole
 
 pub returns-in-Err-tree-clause-fault : goal.returns-in-Err-tree-clause-fault
@@ -46,7 +46,7 @@ returns-in-Err-tree-clause-fault c =
     × (option_map (unreachable c.args.config_file.now) (slice_get (config_of c.args.config.now).blocks p) ≡ Some told))
     (IsSystemFault s) c.in-Err-tree.fault
     (λ told h. at_tree (record {
-      passed = have-images s (config_of c.args.config.now).blocks (images_of c.in-Ok.images.items) c.in-Ok.ensures.made;
+      passed = have-images s (config_of c.args.config.now).blocks (images_of c.in-Ok.made.images.items) c.in-Ok.ensures.made;
       faultless = c.in-Ok-network.ensures.faultless;
       network = c.in-Ok-network.network;
       is_network = c.in-Ok-network.ensures.network;

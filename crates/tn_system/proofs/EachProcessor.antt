@@ -16,12 +16,14 @@ use Rattle.tn_config.specs.Writable.{IsWritableBlock}
 use Rattle.tn_stream.specs.declared.images.Image.{Image}
 use Rattle.tn_stream.specs.Images.{ImageBytes, image_of, images_of, IsImage, AreImages}
 use Rattle.tn_image.specs.Images.{IsInRange}
+use Rattle.tn_sym.specs.declared.programs.Program.{Program}
+use Rattle.tn_sym.specs.ProgramStates.{ProgramState, program_of}
 use Rattle.tn_system.specs.declared.files.BlockFiles.{BlockFiles}
 use Rattle.tn_system.specs.declared.files.NamedFiles.{NamedFiles}
 use Rattle.tn_system.specs.declared.systems.SystemFault.{SystemFault}
 use Rattle.tn_system.specs.Sources.{module_files, library_files, Sources, sources, AreRead, OfChosen}
 use Rattle.tn_system.specs.NamedFiles.{places_in, lists_of, block_places, named_files}
-use Rattle.tn_system.specs.Systems.{IsProcessorImage, IsPlainFor}
+use Rattle.tn_system.specs.Systems.{programs_of, IsProcessorImage, IsPlainFor, IsProcessorProgram, BelongTogether}
 use Rattle.tn_system.specs.Faults.{HasImage, IsModulesFault, IsProcessorFault}
 use Rattle.tn_system.specs.Inner.Offers.{IsOfferOf}
 use Rattle.tn_system.proofs.Choosing.{IsOffered}
@@ -93,14 +95,14 @@ module _ (config_file : List ℕ) (config : Config) (files : NamedFiles) (pool :
       abbrev before : List BlockState
       before = map block_of (take k config.blocks.items)
 
-      -- one image more
-      pub image-more : (P : BlockState → ImageBytes → Type 0) (images : List ImageBytes) (i : ImageBytes) → AllZip P before images
-          → P (block_of block) i → AllZip P (map block_of (take (k + 1) config.blocks.items)) (images ++ i ∷ [])
-      image-more P images i so_far this =
-          subst (λ l. AllZip P l (images ++ i ∷ []))
-          (sym (ap (map block_of) (take_more config.blocks.items k block l ∙ ap (λ x. take k config.blocks.items ++ x ∷ []) (sym is))
+      -- one more of what each has
+      pub one-more : {X : Type 0} (P : BlockState → X → Type 0) (xs : List X) (x : X) → AllZip P before xs → P (block_of block) x
+          → AllZip P (map block_of (take (k + 1) config.blocks.items)) (xs ++ x ∷ [])
+      one-more P xs x so_far this =
+          subst (λ l. AllZip P l (xs ++ x ∷ []))
+          (sym (ap (map block_of) (take_more config.blocks.items k block l ∙ ap (λ b. take k config.blocks.items ++ b ∷ []) (sym is))
           ∙ map-append block_of (take k config.blocks.items) (block ∷ [])))
-          (AllZip-push P before images (block_of block) i so_far this)
+          (AllZip-push P before xs (block_of block) x so_far this)
 
       -- or the first that is refused
       pub refused-at : (images : List ImageBytes) (fault : SystemFault) → AllZip (IsProcessorImage s) before images
@@ -116,20 +118,42 @@ module _ (config_file : List ℕ) (config : Config) (files : NamedFiles) (pool :
         wrong = this;
       }
 
-      -- the images as the code holds them
-      pub image-pushed : (images new : List Image) (image : Image) → new ≡ images ++ image ∷ []
+      -- what holds of the images and the programs, where one more of each is pushed
+      pub images-pushed : (images new : List Image) (image : Image) → new ≡ images ++ image ∷ []
           → AllZip (IsProcessorImage s) before (images_of images) × AreImages (images_of images)
           × AllZip IsPlainFor before (images_of images)
           → IsProcessorImage s (block_of block) (image_of image) → IsImage (image_of image) → IsPlainFor (block_of block) (image_of image)
           → AllZip (IsProcessorImage s) (map block_of (take (k + 1) config.blocks.items)) (images_of new) × AreImages (images_of new)
           × AllZip IsPlainFor (map block_of (take (k + 1) config.blocks.items)) (images_of new)
-      image-pushed images new image new_is so_far this is_image is_plain =
+      images-pushed images new image new_is so_far this is_image is_plain =
           let same : images_of new ≡ images_of images ++ image_of image ∷ [] = ap images_of new_is ∙ map-append image_of images
           (image ∷ []) in (
             subst (AllZip (IsProcessorImage s) (map block_of (take (k + 1) config.blocks.items))) (sym same)
-                (image-more (IsProcessorImage s) (images_of images) (image_of image) so_far.0 this),
+                (one-more (IsProcessorImage s) (images_of images) (image_of image) so_far.0 this),
             subst AreImages (sym same) (All-append IsImage (images_of images) (image_of image ∷ []) so_far.1
                 (All-cons IsImage (image_of image) [] is_image (All-nil IsImage))),
             subst (AllZip IsPlainFor (map block_of (take (k + 1) config.blocks.items))) (sym same)
-                (image-more IsPlainFor (images_of images) (image_of image) so_far.2 is_plain),
+                (one-more IsPlainFor (images_of images) (image_of image) so_far.2 is_plain),
           )
+
+      pub programs-pushed : (programs new : List Program) (program : Program) → new ≡ programs ++ program ∷ []
+          → AllZip (IsProcessorProgram s) before (programs_of programs) → IsProcessorProgram s (block_of block) (program_of program)
+          → AllZip (IsProcessorProgram s) (map block_of (take (k + 1) config.blocks.items)) (programs_of new)
+      programs-pushed programs new program new_is so_far this =
+          subst (AllZip (IsProcessorProgram s) (map block_of (take (k + 1) config.blocks.items)))
+          (sym (ap programs_of new_is ∙ map-append program_of programs (program ∷ [])))
+          (one-more (IsProcessorProgram s) (programs_of programs) (program_of program) so_far this)
+
+-- programs that belong to images, where one more of each is pushed
+pub belong-pushed : (programs new_programs : List Program) (program : Program) (images new_images : List Image) (image : Image)
+    → new_programs ≡ programs ++ program ∷ [] → new_images ≡ images ++ image ∷ []
+    → AllZip BelongTogether (programs_of programs) (images_of images) → BelongTogether (program_of program) (image_of image)
+    → AllZip BelongTogether (programs_of new_programs) (images_of new_images)
+belong-pushed programs new_programs program images new_images image programs_are images_are so_far this =
+    let programs_same : programs_of new_programs ≡ programs_of programs ++ program_of program ∷ [] =
+    ap programs_of programs_are ∙ map-append program_of programs (program ∷ []) in
+    let images_same : images_of new_images ≡ images_of images ++ image_of image ∷ [] =
+    ap images_of images_are ∙ map-append image_of images (image ∷ []) in
+    subst (λ ps. AllZip BelongTogether ps (images_of new_images)) (sym programs_same)
+    (subst (AllZip BelongTogether (programs_of programs ++ program_of program ∷ [])) (sym images_same)
+    (AllZip-push BelongTogether (programs_of programs) (images_of images) (program_of program) (image_of image) so_far this))
