@@ -23,7 +23,7 @@ use Rattle.tn_replay.specs.declared.statements.Statement.{Statement}
 use Rattle.tn_replay.specs.declared.statements.Statement.TheVariants as statement
 use Rattle.tn_replay.specs.Places.{byte_at, link_at, picks_at, place_at, flag_at, word_at, whole_name_at, IsProcessor, processor_named}
 use Rattle.tn_replay.specs.Places.{unknown, or_unknown}
-use Rattle.tn_replay.specs.Statements.{One, Two, Three, OneMarked, TwoMarked, marked, PickSays, ArgumentsSay, keyword_of, none_of, one_of}
+use Rattle.tn_replay.specs.Statements.{One, Two, Three, TwoMarked, PickSays, ArgumentsSay, keyword_of, none_of, one_of}
 use Rattle.tn_replay.specs.Statements.{two_of, three_of, mark_at, of_processor, statement_said}
 use Rattle.tn_replay.specs.ScheduleFaults.{refusal, not_word, has_count, places, names_processor, first_refusal, or_else, unknown_in}
 use Rattle.tn_replay.specs.ScheduleFaults.{arguments_cause}

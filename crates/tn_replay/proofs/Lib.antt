@@ -3,3 +3,7 @@ pub mod Lines
 pub mod Said
 pub mod ScheduleLaws
 pub mod ReadLoop
+pub mod TextLaws
+pub mod LineLaws
+pub mod ReplayLaws
+pub mod PlacedActs

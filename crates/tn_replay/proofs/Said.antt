@@ -1,15 +1,13 @@
 -- What lines say, and what reading them one after the other makes of it.
-use Rattle.std.proofs.Common.{◌≡◌, ℕ, ◌+◌, ◌⊎◌, inl, inr, Bool, true, false, List, [], ◌∷◌, ◌++◌, length, Option, Some, None}
-use Rattle.std.proofs.Common.{Result, Ok, Err, refl, sym, ap, ◌∙◌, subst, append_assoc, append-nil, arith}
+use Rattle.std.proofs.Common.{◌≡◌, ℕ, ◌+◌, ◌⊎◌, inl, inr, true, false, List, [], ◌∷◌, ◌++◌, length}
+use Rattle.std.proofs.Common.{Ok, refl, sym, ap, ◌∙◌, subst, append_assoc, append-nil, arith}
 use Rattle.std.specs.List.{filter_map}
 use Rattle.tn_text.specs.Lines.{tokens}
 use Rattle.tn_text.specs.Reading.{Walks}
 use Rattle.tn_text.proofs.Results.{ok-ok, ok-err}
-use Rattle.tn_replay.specs.declared.acts.Act.{Act}
-use Rattle.tn_replay.specs.declared.acts.Line.{Line}
 use Rattle.tn_replay.specs.declared.statements.Statement.{Statement}
 use Rattle.tn_replay.specs.declared.statements.Statement.TheVariants as statement
-use Rattle.tn_replay.specs.Statements.{keyword_of, WordsSay, LineSays, LinesSay}
+use Rattle.tn_replay.specs.Statements.{WordsSay, LineSays, LinesSay}
 use Rattle.tn_replay.specs.Schedules.{may_stand, AllStand, act_in, power_in}
 use Rattle.tn_replay.specs.ScheduleFaults.{is_silent}
 use Rattle.tn_replay.specs.ScheduleReading.{ReaderState, nothing_read, take, counted, schedule_line}

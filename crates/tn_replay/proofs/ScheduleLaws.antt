@@ -1,16 +1,13 @@
 -- Reading the lines of a schedule gives what they say, or the first fault.
-use Rattle.std.proofs.Common.{◌≡◌, ℕ, ◌+◌, ◌⊎◌, inl, inr, true, List, [], ◌∷◌, length}
-use Rattle.std.proofs.Common.{Some, None, Result, Ok, Err, refl, sym, ap, ◌∙◌, subst, arith}
-use Rattle.std.specs.List.{filter_map}
+use Rattle.std.proofs.Common.{◌≡◌, ℕ, ◌+◌, ◌⊎◌, inl, inr, List, length, Some, Ok, Err, refl, sym, ap, ◌∙◌}
 use Rattle.std.specs.Str.Lines.{lines}
 use Rattle.tn_text.specs.declared.faults.Cause.{Cause}
 use Rattle.tn_text.specs.declared.faults.Fault.{Fault}
-use Rattle.tn_text.specs.Reading.{placed, Walks, IsFirstBadLine, IsLacking, IsReading}
+use Rattle.tn_text.specs.Reading.{IsFirstBadLine, IsLacking, IsReading}
 use Rattle.tn_text.proofs.Results.{ok-ok, ok-err, err-err, none-some}
 use Rattle.tn_text.proofs.Walking.{walk_of, of_walk, first_fault, of_first_bad}
 use Rattle.tn_replay.specs.declared.statements.Statement.{Statement}
-use Rattle.tn_replay.specs.Statements.{LinesSay}
-use Rattle.tn_replay.specs.Schedules.{ScheduleState, AllStand, act_in, power_in, SaysSchedule}
+use Rattle.tn_replay.specs.Schedules.{ScheduleState, SaysSchedule}
 use Rattle.tn_replay.specs.ScheduleFaults.{is_silent, line_cause, IsFirstFault}
 use Rattle.tn_replay.specs.ScheduleReading.{ReaderState, nothing_read, finish, schedule_line, schedule_read}
 use Rattle.tn_replay.proofs.Lines.{Silent, Telling, Wrong, line_read}

@@ -1,2 +1,4 @@
 -- What inner functions and loops hold to: no public clause cites it.
 pub mod Readers
+pub mod LineEnds
+pub mod SoFar

@@ -4,4 +4,7 @@ pub mod Statements
 pub mod Schedules
 pub mod ScheduleFaults
 pub mod ScheduleReading
+pub mod PrintedLines
+pub mod Replays
+pub mod ReplayEnds
 pub mod Inner

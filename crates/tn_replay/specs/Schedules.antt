@@ -1,8 +1,10 @@
 -- Schedules, as contracts see them, and when a text stands for one.
-use Rattle.std.specs.Prelude.{◌≡◌, ⊤, ℕ, ◌≤◌, Bool, true, false, List, [], ◌∷◌, length, Option, Some, None}
+use Rattle.std.specs.Prelude.{◌≡◌, ⊤, ℕ, ◌<◌, ◌≤◌, Bool, true, false, List, [], ◌∷◌, length, Option, Some, None, All}
 use Rattle.std.specs.List.{filter_map}
 use Rattle.std.specs.Str.Lines.{lines}
 use Rattle.tn_text.specs.declared.limits.TheConstants.{LINE_LIMIT}
+use Rattle.tn_replay.specs.declared.acts.Act.{Act}
+use Rattle.tn_replay.specs.declared.acts.Act.TheVariants as act
 use Rattle.tn_replay.specs.declared.acts.Line.{Line}
 use Rattle.tn_replay.specs.declared.acts.Schedule.{Schedule}
 use Rattle.tn_replay.specs.declared.keywords.Keyword.{Keyword}
@@ -18,6 +20,22 @@ pub record ScheduleState : Type 0 where
 
 abbrev pub schedule_of : Schedule → ScheduleState
 schedule_of s = record { power = s.power; lines = s.lines.items }
+
+-- the processor of an act that prints is one of so many
+abbrev pub IsPlaced : ℕ → Act → Type 0
+IsPlaced count (act.Pick x) = ⊤
+IsPlaced count (act.Settle most back) = ⊤
+IsPlaced count act.Release = ⊤
+IsPlaced count (act.Show p) = p < count
+IsPlaced count (act.Links p) = p < count
+IsPlaced count (act.Word p address) = p < count
+IsPlaced count act.Host = ⊤
+IsPlaced count (act.Got place) = ⊤
+IsPlaced count act.Steps = ⊤
+
+-- so are those of all lines
+abbrev pub ArePlaced : ℕ → List Line → Type 0
+ArePlaced count lines = All (λ line. IsPlaced count line.act) lines
 
 -- whether a line with this keyword may stand there: `power` only as the first with tokens
 unfoldable pub may_stand : Bool → Keyword → Bool

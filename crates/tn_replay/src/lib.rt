@@ -5,8 +5,12 @@
 mod acts;
 mod keywords;
 mod places;
+mod printed_lines;
 mod readers;
+mod replay_lines;
+mod replays;
 mod statements;
 
 pub use acts::{Act, Line, Schedule, ScheduleFault};
 pub use readers::read_schedule;
+pub use replays::{ReplayFault, Summary, replay};

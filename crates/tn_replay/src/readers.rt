@@ -2,7 +2,7 @@ ghost use Rattle.std.specs.Prelude.{◌≡◌, ℕ, ◌+◌, ◌<◌, ◌≤◌,
 ghost use Rattle.std.specs.Str.Lines.{lines};
 ghost use Rattle.tn_text.specs.declared.limits.TheConstants.{LINE_LIMIT};
 ghost use Rattle.tn_text.specs.Reading.{Gives, IsReading, placed};
-ghost use Rattle.tn_replay.specs.Schedules.{ScheduleState, schedule_of, may_stand, SaysSchedule, IsSchedule};
+ghost use Rattle.tn_replay.specs.Schedules.{ScheduleState, ArePlaced, schedule_of, may_stand, SaysSchedule, IsSchedule};
 ghost use Rattle.tn_replay.specs.ScheduleFaults.{IsFirstFault, IsScheduleFault};
 ghost use Rattle.tn_replay.specs.ScheduleReading.{nothing_read, take, words_said, schedule_line, schedule_read, limited, GivesSchedule};
 ghost use Rattle.tn_replay.specs.Inner.Readers.{reader_of};
@@ -49,6 +49,8 @@ pub fn read_schedule(alloc: Global, text: &[u8], names: &[Name]) -> Result<Sched
 
     // So, unless there is no memory:
     ensures found { IfOk result (λ found. IsSchedule names.now text.now (schedule_of found)) }
+    ensures few { IfOk result (λ found. length found.lines.items ≤ LINE_LIMIT) }
+    ensures placed { IfOk result (λ found. ArePlaced (length names.now) found.lines.items) }
     ensures only { (s : ScheduleState) → IsSchedule names.now text.now s → GivesSchedule result (Ok s) }
     ensures fault { (fault : _) → result ≡ Err (ScheduleFault.Fault fault) → IsScheduleFault names.now text.now fault }
     ensures lines { (n : ℕ) → result ≡ Err (ScheduleFault.Lines n) → (n ≡ length (lines text.now)) × (LINE_LIMIT < n) }

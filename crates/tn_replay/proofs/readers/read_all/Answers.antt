@@ -1,6 +1,6 @@
-use Rattle.std.proofs.Common.{◌≡◌, ◌+◌, ◌≤◌, length, Result, Err, sym, ap, ◌∙◌, arith}
+use Rattle.std.proofs.Common.{◌≡◌, ◌+◌, ◌≤◌, length, Result, sym, arith}
 use Rattle.tn_text.specs.declared.faults.ReadFault.{ReadFault}
-use Rattle.tn_text.specs.Reading.{placed, Gives}
+use Rattle.tn_text.specs.Reading.{Gives}
 use Rattle.tn_text.proofs.ReadingLoops.{reads-end}
 use Rattle.tn_text.proofs.Results.{of-error}
 use Rattle.tn_replay.specs.declared.acts.Schedule.{Schedule}

@@ -1,4 +1,4 @@
-use Rattle.std.proofs.Common.{◌≡◌, ◌≤◌, length, Result, Ok, Err, sym, ap, ◌∙◌, subst, arith}
+use Rattle.std.proofs.Common.{◌≡◌, ◌≤◌, length, Result, Err, sym, ap, ◌∙◌, subst, arith}
 use Rattle.std.specs.Str.Lines.{lines}
 use Rattle.tn_text.specs.declared.limits.TheConstants.{LINE_LIMIT}
 use Rattle.tn_text.specs.declared.faults.Fault.{Fault}
@@ -8,6 +8,7 @@ use Rattle.tn_text.specs.Reading.{Gives}
 use Rattle.tn_replay.specs.Schedules.{ScheduleState, schedule_of}
 use Rattle.tn_replay.specs.ScheduleReading.{faulted}
 use Rattle.tn_replay.proofs.ScheduleLaws.{schedule_found, schedule_only, schedule_fault}
+use Rattle.tn_replay.proofs.PlacedActs.{acts_placed, acts_few}
 use Rattle.tn_replay.proofs.readers.read_schedule.Goals as goal
 
 -- a reader that answers a fault
@@ -18,6 +19,18 @@ told {answer} why fault is gives = subst (λ w. Gives schedule_of (Err w) answer
 pub returns-in-Ok-clause-found : goal.returns-in-Ok-clause-found
 returns-in-Ok-clause-found c =
     let short : length (lines c.args.text.now) ≤ LINE_LIMIT = omega (arith, c.if-count.false, c.count_lines-count.ensures) in
+    (short, schedule_found c.args.names.now c.args.text.now (schedule_of c.in-Ok.schedule) (sym c.in-Ok.ensures))
+
+pub returns-in-Ok-clause-few : goal.returns-in-Ok-clause-few
+returns-in-Ok-clause-few c =
+    let short : length (lines c.args.text.now) ≤ LINE_LIMIT = omega (arith, c.if-count.false, c.count_lines-count.ensures) in
+    acts_few c.args.names.now c.args.text.now (schedule_of c.in-Ok.schedule)
+    (short, schedule_found c.args.names.now c.args.text.now (schedule_of c.in-Ok.schedule) (sym c.in-Ok.ensures))
+
+pub returns-in-Ok-clause-placed : goal.returns-in-Ok-clause-placed
+returns-in-Ok-clause-placed c =
+    let short : length (lines c.args.text.now) ≤ LINE_LIMIT = omega (arith, c.if-count.false, c.count_lines-count.ensures) in
+    acts_placed c.args.names.now c.args.text.now (schedule_of c.in-Ok.schedule)
     (short, schedule_found c.args.names.now c.args.text.now (schedule_of c.in-Ok.schedule) (sym c.in-Ok.ensures))
 
 pub returns-in-Ok-clause-only : goal.returns-in-Ok-clause-only
