@@ -1,5 +1,6 @@
 -- A plan that gives something came to it through each of its parts.
-use Rattle.std.proofs.Common.{◌≡◌, ◌⊎◌, inl, inr, ℕ, ◌≤◌, List, [], length, Option, Some, None, IfSome, Result, refl, sym, ap, ◌∙◌, subst}
+use Rattle.std.proofs.Common.{◌≡◌, ◌⊎◌, inl, inr, ℕ, ◌≤◌, List, [], length, Option, Some, None, IfSome, Result}
+use Rattle.std.proofs.Common.{refl, sym, ap, ◌∙◌, subst, codes}
 use Rattle.tn_io.specs.FileLists.{Files, held}
 use Rattle.tn_text.specs.declared.limits.TheConstants.{FILE_LIMIT}
 use Rattle.tn_io.specs.Outs.{Printed, told_then}
@@ -19,9 +20,16 @@ use Rattle.tn_top.specs.SystemPlans.{config_plan, library_file_plan, sources_of,
 use Rattle.tn_top.specs.SystemPlans.{system_tree, tree_printed}
 use Rattle.tn_top.specs.Refusals.{end_status}
 use Rattle.tn_top.specs.Outcomes.{Told, Holds}
-use Rattle.tn_top.specs.Builds.{IsBuilt, IsShown, IsStarted}
+use Rattle.tn_replay.specs.declared.acts.Line.{Line}
+use Rattle.tn_top.specs.ReplayPlans.{processor_names, schedule_plan, ReplaySources, replay_sources, replay_sources_plan}
+use Rattle.tn_top.specs.ReplayPlans.{replay_of, said_of}
+use Rattle.tn_top.specs.ReplayPlans.{replay_answer, replay_printed, replay_plan}
+use Rattle.tn_top.specs.GridPlans.{grid_files, grid_text, grid_printed, grid_system, grid_plan}
+use Rattle.tn_top.specs.Builds.{IsBuilt, IsShown, IsReplayed, IsGridShown, IsStarted}
 use Rattle.tn_top.specs.Inner.Ends.{Ends, wrote_all, showed_all, unable, wrote_part, wrote_for_want, showed_part, showed_for_want}
 use Rattle.tn_top.specs.Inner.Ends.{not_enabled}
+use Rattle.tn_top.proofs.OwnFileLaws.{given-over}
+use Rattle.tn_system.proofs.Executing.{executes}
 use Rattle.tn_top.proofs.SystemBoots.{system-boots, one-boots}
 
 module _ {B : Type 0} (files : Option Files) (b : B) where
@@ -138,6 +146,7 @@ built config target before after w =
       written = subst (λ n. Told before.files after.files (Holds n (system_stream made.0.1))) written.0
           (subst (λ b. Told before.files after.files (Holds w.file b)) written.1 w.told);
       boots = system-boots of.0 made.0.1 of.3;
+      executes = executes of.0 made.0.1 of.3;
     }
 
 pub ends-built : {T : Type 0} (config target : List ℕ) (before after : Stored) (old new : Printed) (r : Result T Refusal)
@@ -184,6 +193,102 @@ ends-shown config before after old new r ends e =
           (gives (done (Some (w.file, w.bytes)) [])) refl made.2 in
           absurd cc)
       | inr s ↦ shown config before old new s
+    ]
+
+-- ---- replay
+
+-- the system of a replay is that of its sources
+pub replay-found : (files : Option Files) (config schedule : List ℕ) (r : ReplaySources)
+    → Goes files (replay_sources_plan config schedule) (gives r)
+    → (s : Sources) × (s.config_file ≡ config) × (s.config ≡ r.config) × IsSystem s r.system
+replay-found files config schedule r g =
+    let first = came-through files r (system_plan config)
+    (λ x. then_plan (schedule_plan schedule (processor_names x.0)) (λ t. gives (replay_sources x t))) g in
+    let second = came-through files r (schedule_plan schedule (processor_names first.0.0)) (λ t. gives (replay_sources first.0 t))
+    first.2 in
+    let is : replay_sources first.0 second.0 ≡ r =
+    given-same files r (replay_sources first.0 second.0) (gives r) refl second.2 in
+    let of = system-found files config first.0.0 first.0.1 first.1 in
+    (of.0, of.1, of.2 ∙ ap (λ t. t.config) is, subst (IsSystem of.0) (ap (λ t. t.system) is) of.3)
+
+-- an answer of a replay that is all done
+all-done : (file text : List ℕ) (acts : List Line) (printed : List ℕ) (o : Option ℕ) (said : List ℕ)
+    → said_of file text acts printed o ≡ done None said → (o ≡ None) × (said ≡ printed)
+all-done file text acts printed None said e = (refl, same-text printed said e)
+all-done file text acts printed (Some i) said e = absurd cc
+
+never-written : (file text : List ℕ) (acts : List Line) (printed : List ℕ) (o : Option ℕ) (written : List ℕ × List ℕ)
+    → said_of file text acts printed o ≡ done (Some written) [] → ⊥
+never-written file text acts printed None written e = absurd cc
+never-written file text acts printed (Some i) written e = absurd cc
+
+replayed : (config schedule : List ℕ) (before : Stored) (old new : Printed) → Showed (replay_plan config schedule) before old new
+    → IsReplayed config schedule before old new
+replayed config schedule before old new s =
+    let made = came-through before.files (done None s.text) (replay_sources_plan config schedule) (replay_printed schedule) s.goes in
+    let r = made.0 in
+    let same : replay_answer schedule r ≡ done None s.text =
+    given-same before.files (done None s.text) (replay_answer schedule r) (gives (done None s.text)) refl made.2 in
+    let all = all-done schedule r.text r.schedule.lines (replay_of r).text (replay_of r).refused s.text same in
+    let of = replay-found before.files config schedule r made.1 in
+    record {
+      sources = of.0;
+      replayed = r;
+      of_file = of.1;
+      of_config = of.2;
+      makes = of.3;
+      found = made.1;
+      whole = all.0;
+      printed = s.printed ∙ ap (λ text. told_then text old.bytes) all.1;
+      boots = system-boots of.0 r.system of.3;
+      executes = executes of.0 r.system of.3;
+    }
+
+pub ends-replayed : {T : Type 0} (config schedule : List ℕ) (before after : Stored) (old new : Printed) (r : Result T Refusal)
+    → Ends (replay_plan config schedule) before after old new r → end_status r ≡ status.Done
+    → IsReplayed config schedule before old new
+ends-replayed config schedule before after old new r ends e =
+    elim (ends-done (replay_plan config schedule) before after old new r ends e) [
+      | inl w ↦ (let made = came-through before.files (done (Some (w.file, w.bytes)) []) (replay_sources_plan config schedule)
+          (replay_printed schedule) w.goes in
+          let same : replay_answer schedule made.0 ≡ done (Some (w.file, w.bytes)) [] =
+          given-same before.files (done (Some (w.file, w.bytes)) []) (replay_answer schedule made.0)
+          (gives (done (Some (w.file, w.bytes)) [])) refl made.2 in
+          absurd (never-written schedule made.0.text made.0.schedule.lines (replay_of made.0).text (replay_of made.0).refused
+          (w.file, w.bytes) same))
+      | inr s ↦ replayed config schedule before old new s
+    ]
+
+-- ---- grid
+
+gridded : (n : ℕ) (before : Stored) (old new : Printed) → Showed (grid_plan n) before old new → IsGridShown n old new
+gridded n before old new s =
+    let made = came-through before.files (done None s.text) (grid_system n) (grid_printed n) s.goes in
+    let same : done None (grid_text n made.0.1) ≡ done None s.text =
+    given-same before.files (done None s.text) (done None (grid_text n made.0.1)) (gives (done None s.text)) refl made.2 in
+    let own : Goes (Some (grid_files n)) (system_plan (codes "grid.cfg")) (gives made.0) =
+    given-over (grid_files n) before.files made.0 (system_plan (codes "grid.cfg")) made.1 in
+    let of = system-found (Some (grid_files n)) (codes "grid.cfg") made.0.0 made.0.1 own in
+    record {
+      sources = of.0;
+      system = made.0.1;
+      of_file = of.1;
+      makes = of.3;
+      found = subst (λ c. Goes (Some (grid_files n)) (system_plan (codes "grid.cfg")) (gives (c, made.0.1))) (sym of.2) own;
+      printed = s.printed ∙ ap (λ text. told_then text old.bytes) (same-text (grid_text n made.0.1) s.text same);
+      boots = system-boots of.0 made.0.1 of.3;
+    }
+
+pub ends-gridded : {T : Type 0} (n : ℕ) (before after : Stored) (old new : Printed) (r : Result T Refusal)
+    → Ends (grid_plan n) before after old new r → end_status r ≡ status.Done → IsGridShown n old new
+ends-gridded n before after old new r ends e =
+    elim (ends-done (grid_plan n) before after old new r ends e) [
+      | inl w ↦ (let made = came-through before.files (done (Some (w.file, w.bytes)) []) (grid_system n) (grid_printed n) w.goes in
+          let same : done None (grid_text n made.0.1) ≡ done (Some (w.file, w.bytes)) [] =
+          given-same before.files (done (Some (w.file, w.bytes)) []) (done None (grid_text n made.0.1))
+          (gives (done (Some (w.file, w.bytes)) [])) refl made.2 in
+          absurd cc)
+      | inr s ↦ gridded n before old new s
     ]
 
 -- ---- one

@@ -1,5 +1,5 @@
 -- What follows of a command from how it ended.
-use Rattle.std.proofs.Common.{◌≡◌, ◌≢◌, ℕ, ◌⊎◌, inl, inr, List, [], append-nil, Option, Some, None, IfSome, IsSomeAnd, Result, Ok, Err}
+use Rattle.std.proofs.Common.{◌≡◌, ◌≢◌, ℕ, ◌⊎◌, inl, inr, List, [], append-nil, Option, Some, None, IfSome, Result, Ok, Err}
 use Rattle.std.proofs.Common.{refl, sym, ap, ◌∙◌, subst}
 use Rattle.tn_text.specs.Counts.{Rose}
 use Rattle.tn_io.specs.FileLists.{Files, held}
@@ -13,14 +13,15 @@ use Rattle.tn_top.specs.declared.statuses.Status.{Status}
 use Rattle.tn_top.specs.declared.statuses.Status.TheVariants as status
 use Rattle.tn_top.specs.Plans.{Answer, usage, unread, fault, limit, refused, done, Plan, gives, stops, reads, then_plan, Goes}
 use Rattle.tn_top.specs.Plans.{Reaches, at_end, at_stop, at_gap}
-use Rattle.tn_top.specs.Inner.Stages.{Unable, Staged}
+use Rattle.tn_top.specs.Inner.Stages.{Unreadable, Unable, Staged}
 use Rattle.tn_top.specs.Outcomes.{Told, SameFiles, Holds, HoldsPart, without, Begins, printed_by, status_of, IsDone, IsPrinted, AllGiven}
-use Rattle.tn_top.specs.Outcomes.{WritesTo, AnswersLike, CannotRead, HasCause, HasStatus, Unless}
+use Rattle.tn_top.specs.Outcomes.{WritesTo, AnswersLike, IsUnread, CannotRead, HasCause, HasStatus, Unless}
 use Rattle.tn_top.specs.Outcomes.{NothingFailed, FilesAfter, PrintedAfter, PrintsWhole, PrintsPart}
 use Rattle.tn_top.specs.Refusals.{end_status, refused_line, end_line}
-use Rattle.tn_top.specs.ErrLines.{IsLine}
+use Rattle.tn_top.specs.ErrLines.{ComesToRead, IsLine}
 use Rattle.tn_top.specs.Inner.Ends.{Prints, Ends, wrote_all, showed_all, unable, wrote_part, wrote_for_want, showed_part, showed_for_want}
 use Rattle.tn_top.specs.Inner.Ends.{not_enabled, Puts, Shows}
+use Rattle.tn_top.specs.Inner.Replays.{Replies}
 use Rattle.tn_top.proofs.PlanLaws.{goes-then, given-goes, without-goes, one_answer}
 use Rattle.tn_top.proofs.StageLaws.{unable-then}
 
@@ -49,9 +50,15 @@ without_it None plan file next g = tt
 without_it (Some fs) plan file next g = without-goes fs file next plan (reads file next) refl g
 
 missing_it : (files : Option Files) (plan : Plan Answer) (file : List ℕ) (next : List ℕ → Plan Answer) → told files file ≡ Some None
-    → Goes files plan (reads file next) → IsSomeAnd files (λ fs. Reaches fs plan (unread file))
+    → Goes files plan (reads file next) → IsUnread (Some plan) files file
 missing_it None plan file next e g = absurd cc
 missing_it (Some fs) plan file next e g = let gone : held fs file ≡ None = cc in at_gap file next g gone
+
+-- or to where it lacks one of its own
+lacking_it : (files : Option Files) (plan : Plan Answer) (file : List ℕ) → Goes files plan (stops (unread file))
+    → IsUnread (Some plan) files file
+lacking_it None plan file g = g
+lacking_it (Some fs) plan file g = at_stop (unread file) g
 
 -- an answer of a kind
 like : (plan : Plan Answer) (P : Answer → Type 0) (files : Option Files) (a : Answer) → P a → IfSome files (λ fs. Reaches fs plan a)
@@ -102,10 +109,17 @@ kept plan status.OutFault fs n m = λ name. refl
 kept plan status.NotEnabled fs n m = λ name. refl
 
 module _ (plan : Plan Answer) (before after : Stored) (old new : Printed) where
-  cannot_read : (file : List ℕ) (next : List ℕ → Plan Answer) → Goes before.files plan (reads file next)
-      → Rose before.read_faults after.read_faults ⊎ (told before.files file ≡ Some None) → CannotRead (Some plan) before after file
-  cannot_read file next g (inl rose) = inr (rose, without_it before.files plan file next g)
-  cannot_read file next g (inr e) = inl (missing_it before.files plan file next e g)
+  cannot_read : (file : List ℕ) → Unreadable plan before after file → CannotRead (Some plan) before after file
+  cannot_read file (inl u) = at u.2
+    where
+      at : Rose before.read_faults after.read_faults ⊎ (told before.files file ≡ Some None) → CannotRead (Some plan) before after file
+      at (inl rose) = inr (rose, without_it before.files plan file u.0 u.1)
+      at (inr e) = inl (missing_it before.files plan file u.0 e u.1)
+  cannot_read file (inr g) = inl (lacking_it before.files plan file g)
+
+  came_to_read : (file : List ℕ) → Unreadable plan before after file → ComesToRead (Some plan) before.files file
+  came_to_read file (inl u) = inl (u.0, u.1)
+  came_to_read file (inr g) = inr g
 
   unable_cause : (T : Type 0) (why : Refusal) → Unable plan before after why
       → HasCause (Some plan) before after old new (end_status {T = T} (Err why))
@@ -114,7 +128,7 @@ module _ (plan : Plan Answer) (before after : Stored) (old new : Printed) where
       more before.files (λ fs h. (file, first, h)) (stopped before.files plan (fault file first) u)
   unable_cause T (refusal.Limit word count) u =
       more before.files (λ fs h. (word, count, h)) (stopped before.files plan (limit word count) u)
-  unable_cause T (refusal.Unread file) u = (file, cannot_read file u.0 u.1 u.2)
+  unable_cause T (refusal.Unread file) u = (file, cannot_read file u)
   unable_cause T (refusal.Unwritten file) u = absurd u
   unable_cause T refusal.Unprinted u = absurd u
   unable_cause T (refusal.NotEnabled file line tokens) u = absurd u
@@ -150,17 +164,11 @@ module _ (plan : Plan Answer) (before after : Stored) (old new : Printed) where
   unfolding Ended
   wanting = always before.files (λ fs. inl refl)
 
-  unable_says : (T : Type 0) (why : Refusal) → Unable plan before after why → (Rose before.read_faults after.read_faults → ⊥)
-      → IfSome before.files (Ended (end_status {T = T} (Err why)))
-  unfolding Unable
-  unable_says T (refusal.Fault file first) u calm =
-      ended status.Fault (fault file first) (same refl) (stopped before.files plan (fault file first) u)
-  unable_says T (refusal.Limit word count) u calm =
-      ended status.Limit (limit word count) (same refl) (stopped before.files plan (limit word count) u)
-  unable_says T (refusal.Unread file) u calm = at u.2
+  unread_says : (file : List ℕ) → Unreadable plan before after file → (Rose before.read_faults after.read_faults → ⊥)
+      → IfSome before.files (Ended status.ReadFault)
+  unread_says file (inl u) calm = at u.2
     where
-      reached : (files : Option Files) → IsSomeAnd files (λ fs. Reaches fs plan (unread file))
-          → IfSome files (λ fs. Reaches fs plan (unread file))
+      reached : (files : Option Files) → IsUnread (Some plan) files file → IfSome files (λ fs. Reaches fs plan (unread file))
       reached None h = tt
       reached (Some fs) h = h
 
@@ -168,6 +176,17 @@ module _ (plan : Plan Answer) (before after : Stored) (old new : Printed) where
       at (inl rose) = absurd (calm rose)
       at (inr e) = ended status.ReadFault (unread file) (same refl)
           (reached before.files (missing_it before.files plan file u.0 e u.1))
+  unread_says file (inr g) calm =
+      ended status.ReadFault (unread file) (same refl) (stopped before.files plan (unread file) g)
+
+  unable_says : (T : Type 0) (why : Refusal) → Unable plan before after why → (Rose before.read_faults after.read_faults → ⊥)
+      → IfSome before.files (Ended (end_status {T = T} (Err why)))
+  unfolding Unable
+  unable_says T (refusal.Fault file first) u calm =
+      ended status.Fault (fault file first) (same refl) (stopped before.files plan (fault file first) u)
+  unable_says T (refusal.Limit word count) u calm =
+      ended status.Limit (limit word count) (same refl) (stopped before.files plan (limit word count) u)
+  unable_says T (refusal.Unread file) u calm = unread_says file u calm
   unable_says T (refusal.Unwritten file) u calm = absurd u
   unable_says T refusal.Unprinted u calm = absurd u
   unable_says T (refusal.NotEnabled file line tokens) u calm = absurd u
@@ -336,7 +355,7 @@ module _ (plan : Plan Answer) (before after : Stored) (old new : Printed) where
   unfolding Unable refused_line
   unable_line T (refusal.Fault file first) u = (file, first, refl, inr u)
   unable_line T (refusal.Limit which count) u = (which, count, refl, inr u)
-  unable_line T (refusal.Unread file) u = (file, refl, cannot_read file u.0 u.1 u.2, (u.0, u.1))
+  unable_line T (refusal.Unread file) u = (file, refl, cannot_read file u, came_to_read file u)
   unable_line T (refusal.Unwritten file) u = absurd u
   unable_line T refusal.Unprinted u = absurd u
   unable_line T (refusal.NotEnabled file line tokens) u = absurd u
@@ -374,6 +393,11 @@ module _ (plan : Plan Answer) (before after : Stored) (old new : Printed) where
   ends_closed target r all (showed_part text answer is g f rose b) e = absurd cc
   ends_closed target r all (showed_for_want text answer is g f b) e = absurd cc
   ends_closed target r all (not_enabled file line tokens text g f p) e = absurd cc
+
+-- a command for which there was no memory, before it read, wrote or printed anything
+pub ends_none : {T : Type 0} (plan : Plan Answer) (s : Stored) (said : Printed) → Ends {T = T} plan s s said said (Err refusal.NoMemory)
+unfolding Unable
+ends_none plan s said = unable refusal.NoMemory tt refl refl
 
 -- a command whose stages gave nothing
 pub ends_stopped : {T U A : Type 0} (seen : T → A) (k : A → Plan Answer) (p : Plan A) (before after : Stored) (shown : Printed)
@@ -424,6 +448,22 @@ module _ {T A : Type 0} (seen : T → A) (k : A → Plan Answer) (p : Plan A) (b
   ends_shown text (Err (refusal.Limit word count)) e h = absurd h.err.1
   ends_shown text (Err (refusal.Unread name)) e h = absurd h.err.1
   ends_shown text (Err (refusal.NotEnabled name line tokens)) e h = absurd h.err.1
+
+  -- it printed the text of an answer, which may tell of a step that is not enabled
+  pub ends_replied : {U : Type 0} (answer : Answer) (r : Result U Refusal) → k (seen x) ≡ gives answer → Prints (printed_by answer) answer
+      → Replies answer old new r → Ends (then_plan p k) before mid old new r
+  ends_replied answer (Ok y) e is h =
+      showed_all y (printed_by answer) (there (done None (printed_by answer)) (e ∙ ap gives h.ok.0)) same_files h.ok.1
+  ends_replied answer (Err refusal.Unprinted) e is h =
+      showed_part (printed_by answer) answer is (there answer e) same_files h.err.1 h.err.0
+  ends_replied answer (Err refusal.NoMemory) e is h = showed_for_want (printed_by answer) answer is (there answer e) same_files h.err
+  ends_replied answer (Err (refusal.NotEnabled file line tokens)) e is h =
+      not_enabled file line tokens (printed_by answer)
+      (there (refused file line tokens.items (printed_by answer)) (e ∙ ap gives h.err.0)) same_files h.err.1
+  ends_replied answer (Err (refusal.Unwritten name)) e is h = absurd h.err
+  ends_replied answer (Err (refusal.Fault name first)) e is h = absurd h.err
+  ends_replied answer (Err (refusal.Limit word count)) e is h = absurd h.err
+  ends_replied answer (Err (refusal.Unread name)) e is h = absurd h.err
 
   -- there was no memory for what it had to write or to print
   pub ends_wanting : {U : Type 0} → Ends {T = U} (then_plan p k) before mid old old (Err refusal.NoMemory)

@@ -16,3 +16,7 @@ pub mod WordReading
 pub mod ErrLines
 pub mod LibraryTexts
 pub mod SystemBoots
+pub mod OwnFileLaws
+pub mod SettledNets
+pub mod ReplayLaws
+pub mod GridTexts

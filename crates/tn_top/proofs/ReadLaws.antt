@@ -1,5 +1,5 @@
 -- Of reading one file.
-use Rattle.std.proofs.Common.{◌≡◌, ℕ, ◌+◌, ◌<◌, ◌≤◌, ◌⊎◌, List, length, Option, Some, None, IfSome, IsSomeAnd, Ok, Err, Vec, Global}
+use Rattle.std.proofs.Common.{◌≡◌, ℕ, ◌+◌, ◌<◌, ◌≤◌, ◌⊎◌, inl, List, length, Option, Some, None, IfSome, IsSomeAnd, Ok, Err, Vec, Global}
 use Rattle.tn_text.specs.Counts.{Rose}
 use Rattle.tn_io.specs.FileLists.{Files, held}
 use Rattle.tn_io.specs.Stores.{Stored, told}
@@ -36,7 +36,7 @@ module _ (name : List ℕ) (before after : Stored) (same : after ≡ record befo
   pub read-failed : Rose before.read_faults after.read_faults ⊎ (told before.files name ≡ Some None)
       → Staged {T = Vec ℕ Global} (λ t. t.items) (reads name gives) before after (Err (Unread name))
   unfolding Unable
-  read-failed h = record { ok = tt; err = (gives, stays, h); same = same; count = count }
+  read-failed h = record { ok = tt; err = inl (gives, stays, h); same = same; count = count }
 
   pub read-long : IfSome (told before.files name) (λ f. IsSomeAnd f (λ bs. FILE_LIMIT < length bs))
       → Staged {T = Vec ℕ Global} (λ t. t.items) (reads name gives) before after (Err (Limit File (FILE_LIMIT + 1)))

@@ -7,9 +7,9 @@ use Rattle.tn_top.specs.declared.refusals.Refusal.{Refusal}
 use Rattle.tn_top.specs.declared.refusals.Refusal.TheVariants.{Fault, Limit, Unread, Unwritten, Unprinted, NotEnabled, NoMemory}
 use Rattle.tn_system.specs.Sources.{Sources}
 use Rattle.tn_system.specs.Systems.{SystemState}
-use Rattle.tn_top.specs.Plans.{Answer, fault, limit, Plan, gives, stops, reads, settles, then_plan, at_once, each_from, each, Goes, stays}
-use Rattle.tn_top.specs.Plans.{settles_on, settles_not}
-use Rattle.tn_top.specs.Inner.Stages.{Unable, Staged, Makes, Settles}
+use Rattle.tn_top.specs.Plans.{Answer, unread, fault, limit, Plan, gives, stops, reads, settles, then_plan, at_once, each_from, each}
+use Rattle.tn_top.specs.Plans.{Goes, stays, settles_on, settles_not}
+use Rattle.tn_top.specs.Inner.Stages.{Unreadable, Unable, Staged, Makes, Settles}
 use Rattle.tn_top.proofs.PlanLaws.{goes-joined, goes-then}
 
 rose-later : (a b c : ℕ) → a ≤ b → Rose b c → Rose a c
@@ -17,18 +17,37 @@ rose-later a b c h (inl r) = inl (omega arith)
 rose-later a b c h (inr r) = inr r
 
 -- what stops a plan stops it with another behind it
+unread-then : {A B : Type 0} (k : A → Plan B) (p : Plan A) (before after : Stored) (file : List ℕ) → Unreadable p before after file
+    → Unreadable (then_plan p k) before after file
+unfolding then_plan
+unread-then k p before after file (inl h) =
+    inl ((λ text. then_plan (h.0 text) k), goes-then before.files k p (reads file h.0) h.1, h.2)
+unread-then k p before after file (inr g) = inr (goes-then before.files k p (stops (unread file)) g)
+
 pub unable-then : {A B : Type 0} (k : A → Plan B) (p : Plan A) (before after : Stored) (why : Refusal) → Unable p before after why
     → Unable (then_plan p k) before after why
 unfolding Unable then_plan
 unable-then k p before after (Fault file first) h = goes-then before.files k p (stops (fault file first)) h
 unable-then k p before after (Limit word count) h = goes-then before.files k p (stops (limit word count)) h
-unable-then k p before after (Unread file) h = ((λ text. then_plan (h.0 text) k), goes-then before.files k p (reads file h.0) h.1, h.2)
+unable-then k p before after (Unread file) h = unread-then k p before after file h
 unable-then k p before after (Unwritten file) h = h
 unable-then k p before after Unprinted h = h
 unable-then k p before after (NotEnabled file line tokens) h = h
 unable-then k p before after NoMemory h = h
 
 -- what stops a plan behind a place that was reached stops the whole
+unread-behind : {A : Type 0} (p q : Plan A) (before mid after : Stored) (file : List ℕ) → mid.files ≡ before.files
+    → before.read_faults ≤ mid.read_faults → Goes before.files p q → Unreadable q mid after file → Unreadable p before after file
+unread-behind p q before mid after file e c g (inl h) =
+    inl (h.0, goes-joined before.files p q _ g (subst (λ f. Goes f q (reads file h.0)) e h.1), at h.2)
+  where
+    at : Rose mid.read_faults after.read_faults ⊎ (told mid.files file ≡ Some None)
+        → Rose before.read_faults after.read_faults ⊎ (told before.files file ≡ Some None)
+    at (inl r) = inl (rose-later before.read_faults mid.read_faults after.read_faults c r)
+    at (inr m) = inr (ap (λ f. told f file) (sym e) ∙ m)
+unread-behind p q before mid after file e c g (inr h) =
+    inr (goes-joined before.files p q _ g (subst (λ f. Goes f q (stops (unread file))) e h))
+
 pub unable-behind : {A : Type 0} (p q : Plan A) (before mid after : Stored) (why : Refusal) → mid.files ≡ before.files
     → before.read_faults ≤ mid.read_faults → Goes before.files p q → Unable q mid after why → Unable p before after why
 unfolding Unable
@@ -36,13 +55,7 @@ unable-behind p q before mid after (Fault file first) e c g h =
     goes-joined before.files p q _ g (subst (λ f. Goes f q (stops (fault file first))) e h)
 unable-behind p q before mid after (Limit word count) e c g h =
     goes-joined before.files p q _ g (subst (λ f. Goes f q (stops (limit word count))) e h)
-unable-behind p q before mid after (Unread file) e c g h =
-    (h.0, goes-joined before.files p q _ g (subst (λ f. Goes f q (reads file h.0)) e h.1), at h.2)
-  where
-    at : Rose mid.read_faults after.read_faults ⊎ (told mid.files file ≡ Some None)
-        → Rose before.read_faults after.read_faults ⊎ (told before.files file ≡ Some None)
-    at (inl r) = inl (rose-later before.read_faults mid.read_faults after.read_faults c r)
-    at (inr m) = inr (ap (λ f. told f file) (sym e) ∙ m)
+unable-behind p q before mid after (Unread file) e c g h = unread-behind p q before mid after file e c g h
 unable-behind p q before mid after (Unwritten file) e c g h = h
 unable-behind p q before mid after Unprinted e c g h = h
 unable-behind p q before mid after (NotEnabled file line tokens) e c g h = h
@@ -127,8 +140,8 @@ module _ {T A : Type 0} (seen : T → A) (made : List ℕ → Result A Answer) (
 
   pub staged-unread : (why : Refusal) → Staged {T = Vec ℕ Global} (λ t. t.items) (reads file gives) before after (Err why)
       → Staged {T = T} seen (then_plan (reads file gives) (λ t. at_once (made t))) before after (Err why)
-  staged-unread why unread =
-      staged-stopped (λ t. t.items) seen (λ t. at_once (made t)) (reads file gives) before after why unread
+  staged-unread why failed =
+      staged-stopped (λ t. t.items) seen (λ t. at_once (made t)) (reads file gives) before after why failed
 
 -- a stage that settles a system
 pub staged-settled : {T : Type 0} (seen : T → SystemState) (sources : Sources) (s : Stored) (result : Result T Refusal)

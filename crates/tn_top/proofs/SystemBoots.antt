@@ -12,7 +12,7 @@ use Rattle.tn_stream.specs.LoadBranches.{no_image}
 use Rattle.tn_stream.specs.Lengths.{load_steps}
 use Rattle.tn_stream.specs.Streams.{one_processor, stream}
 use Rattle.tn_system.specs.Sources.{Sources}
-use Rattle.tn_system.specs.Systems.{SystemState, IsPlainFor, IsSystem}
+use Rattle.tn_system.specs.Systems.{SystemState, IsPlainFor, IsProcessorProgram, IsSystem}
 use Rattle.tn_load.specs.Boots.{AreFor, alone_node, Boots}
 use Rattle.tn_load.proofs.Booting.{boots}
 use Rattle.tn_load.proofs.BootingOne.{boots-one}
@@ -34,25 +34,37 @@ sizes-of : (blocks : List BlockState) → map (λ processor. processor.1) (map n
 sizes-of [] = refl
 sizes-of (b ∷ blocks) = ap (λ sizes. b.size ∷ sizes) (sizes-of blocks)
 
-pub system-boots : (s : Sources) (y : SystemState) → IsSystem s y → SystemBoots y
-system-boots s y is = boots y.network y.nodes y.images is.pairing is.tree whole for
-  where
-    sizes : y.network.sizes ≡ map (λ b. b.size) s.config.blocks
-    sizes = is.network.sizes ∙ sizes-of s.config.blocks
+module _ (s : Sources) (y : SystemState) (is : IsSystem s y) where
+  sizes : y.network.sizes ≡ map (λ b. b.size) s.config.blocks
+  sizes = is.network.sizes ∙ sizes-of s.config.blocks
 
-    many : length y.network.sizes ≡ length s.config.blocks
-    many = ap length sizes ∙ length-map s.config.blocks (λ (b : BlockState). b.size)
+  many : length y.network.sizes ≡ length s.config.blocks
+  many = ap length sizes ∙ length-map s.config.blocks (λ (b : BlockState). b.size)
 
-    whole : IsWholeTree y.nodes (length y.network.sizes)
-    whole = subst (IsWholeTree y.nodes) (sym many) is.whole
+  whole : IsWholeTree y.nodes (length y.network.sizes)
+  whole = subst (IsWholeTree y.nodes) (sym many) is.whole
 
-    for : AreFor y.network y.images
-    for = record {
-      count = AllZip-long IsPlainFor s.config.blocks y.images is.plain ∙ sym many;
-      segments = is.short;
-      plain = λ p here. subst (λ sizes. IsPlain (get_or sizes p 0) (get_or y.images p no_image)) (sym sizes)
-          (plain-at s.config.blocks y.images p is.plain (omega (arith, here, many)));
-    }
+  -- there is an image for each processor
+  pub system-images : length y.images ≡ length y.network.sizes
+  system-images = AllZip-long IsPlainFor s.config.blocks y.images is.plain ∙ sym many
+
+  -- and a program and a block
+  pub system-programs : length y.programs ≡ length y.network.sizes
+  system-programs = AllZip-long (IsProcessorProgram s) s.config.blocks y.programs is.programs ∙ sym many
+
+  pub system-blocks : length s.config.blocks ≡ length y.network.sizes
+  system-blocks = sym many
+
+  for : AreFor y.network y.images
+  for = record {
+    count = system-images;
+    segments = is.short;
+    plain = λ p here. subst (λ sizes. IsPlain (get_or sizes p 0) (get_or y.images p no_image)) (sym sizes)
+        (plain-at s.config.blocks y.images p is.plain (omega (arith, here, many)));
+  }
+
+  pub system-boots : SystemBoots y
+  system-boots = boots y.network y.nodes y.images is.pairing is.tree whole for
 
 -- ---- one processor
 

@@ -76,7 +76,7 @@ printed-text blocks images nodes names counts steps named counted_all summed som
 
 -- ---- how a command that prints a text ends
 
-none-of-it : (o : Option (List ℕ)) → o ≡ told_then [] o
+pub none-of-it : (o : Option (List ℕ)) → o ≡ told_then [] o
 none-of-it None = refl
 none-of-it (Some bs) = ap Some (sym (append-nil bs))
 

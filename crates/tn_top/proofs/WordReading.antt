@@ -21,8 +21,8 @@ use Rattle.tn_words.specs.PlainWords.{is_plain_word}
 use Rattle.tn_top.specs.declared.refusals.Refusal.{Refusal}
 use Rattle.tn_top.specs.declared.words.Command.{Command}
 use Rattle.tn_top.specs.declared.refusals.Refusal.TheVariants.{Fault, Limit, Unread, Unwritten, Unprinted, NotEnabled, NoMemory}
-use Rattle.tn_top.specs.CommandWords.{Asked, HasLink, flat, one, asm, lib, build, tree, is_file_word, link_named, one_file, two_files}
-use Rattle.tn_top.specs.CommandWords.{one_asked, lib_asked, asked}
+use Rattle.tn_top.specs.CommandWords.{Asked, IsInRange, flat, one, asm, lib, build, tree, replay, grid, is_file_word, link_named}
+use Rattle.tn_top.specs.CommandWords.{size_named, one_file, two_files, one_asked, lib_asked, grid_asked, asked}
 use Rattle.tn_io.specs.Outs.{Printed}
 use Rattle.tn_io.specs.Stores.{Stored}
 use Rattle.tn_top.specs.Plans.{Answer, Plan}
@@ -67,6 +67,16 @@ link_plain (c ∷ []) link e = at (nat_le 48 c && nat_le c 51) refl e
 pub three_plain : (source target word : List ℕ) (link : ℕ) → is_file_word source ≡ true → is_file_word target ≡ true
     → link_named word ≡ Some link → list_all is_plain_word (source ∷ target ∷ word ∷ []) ≡ true
 three_plain source target word link h k l = rw (plain source h, plain target k, link_plain word link l) refl
+
+pub size_plain : (word : List ℕ) (size : ℕ) → size_named word ≡ Some size → is_plain_word word ≡ true
+unfolding size_named
+size_plain [] size e = absurd cc
+size_plain (c ∷ d ∷ ds) size e = absurd cc
+size_plain (c ∷ []) size e = at (nat_le 49 c && nat_le c 56) refl e
+  where
+    at : (t : Bool) → (nat_le 49 c && nat_le c 56) ≡ t → cond {A = Option ℕ} t (Some (c - 48)) None ≡ Some size → not (c == 45) ≡ true
+    at false t q = absurd cc
+    at true t q = grind (arith, nat_tests, both (nat_le 49 c) (nat_le c 56) t)
 
 -- such words are names of files
 pub file_named : (word : List ℕ) → is_file_word word ≡ true → is_file_name word ≡ true
@@ -175,6 +185,23 @@ module _ (words : List (List ℕ)) where
       at (a ∷ b ∷ c ∷ d ∷ []) e = by a b c d e (is_file_word b && is_file_word c) refl
       at (a ∷ b ∷ c ∷ d ∷ f ∷ fs) e = tt
 
+  pub grid_reads : (r : Result (Option Command) Refusal)
+      → ((command word : List ℕ) (size : ℕ) → words ≡ command ∷ word ∷ [] → size_named word ≡ Some size
+      → IfOk r (λ o. IsSomeAnd o (λ c. asked_by c ≡ grid size)))
+      → IfErr r (λ why. why ≡ NoMemory) → ReadsAs asked_by (grid_asked (behind words)) r
+  grid_reads r ok err = record { values = at words refl; wanting = err }
+    where
+      by : (command word : List ℕ) → words ≡ command ∷ word ∷ [] → (o : Option ℕ) → size_named word ≡ o
+          → IfSome (option_map grid o) (λ what. IfOk r (λ o. IsSomeAnd o (λ c. what ≡ asked_by c)))
+      by command word e None q = tt
+      by command word e (Some size) q = some-same asked_by (grid size) r (ok command word size e q)
+
+      at : (ws : List (List ℕ)) → words ≡ ws → IfSome (grid_asked (behind ws)) (λ what. IfOk r (λ o. IsSomeAnd o (λ c. what ≡ asked_by c)))
+      at [] e = tt
+      at (a ∷ []) e = tt
+      at (a ∷ b ∷ []) e = by a b e (size_named b) refl
+      at (a ∷ b ∷ c ∷ cs) e = tt
+
   pub lib_reads : (r : Result (Option Command) Refusal)
       → ((command target source : List ℕ) (sources : List (List ℕ)) → words ≡ command ∷ target ∷ source ∷ sources
       → list_all is_file_word (target ∷ source ∷ sources) ≡ true
@@ -215,10 +242,10 @@ fails p xs i x here is fail = at (list_all p xs) refl
 pub unasked : {X : Type 0} (f : X → List ℕ) (words : List X) (first : X) (command : List ℕ) → 1 ≤ length words
     → first ≡ get_or words 0 first → command ≡ f first → (command ≡ codes "flat" → ⊥) → (command ≡ codes "one" → ⊥)
     → (command ≡ codes "asm" → ⊥) → (command ≡ codes "lib" → ⊥) → (command ≡ codes "build" → ⊥) → (command ≡ codes "tree" → ⊥)
-    → asked (map f words) ≡ None
+    → (command ≡ codes "replay" → ⊥) → (command ≡ codes "grid" → ⊥) → asked (map f words) ≡ None
 unfolding asked
-unasked f [] first command some is same no_flat no_one no_asm no_lib no_build no_tree = absurd (omega arith)
-unasked f (word ∷ words) first command some is same no_flat no_one no_asm no_lib no_build no_tree =
+unasked f [] first command some is same no_flat no_one no_asm no_lib no_build no_tree no_replay no_grid = absurd (omega arith)
+unasked f (word ∷ words) first command some is same no_flat no_one no_asm no_lib no_build no_tree no_replay no_grid =
     let named : command ≡ f word = same ∙ ap f is in
     rw (
       ← named,
@@ -228,68 +255,96 @@ unasked f (word ∷ words) first command some is same no_flat no_one no_asm no_l
       bytes_eq-other command (codes "lib") no_lib,
       bytes_eq-other command (codes "build") no_build,
       bytes_eq-other command (codes "tree") no_tree,
+      bytes_eq-other command (codes "replay") no_replay,
+      bytes_eq-other command (codes "grid") no_grid,
     ) refl
 
--- ---- links
+-- ---- ranges
 
-either : (b : Bool) (x y : Option Asked) → IfSome x HasLink → IfSome y HasLink → IfSome (cond b x y) HasLink
+either : (b : Bool) (x y : Option Asked) → IfSome x IsInRange → IfSome y IsInRange → IfSome (cond b x y) IsInRange
 either true x y h k = h
 either false x y h k = k
 
-asm-links : (files : Option (List ℕ × List ℕ)) → IfSome (option_map (λ f. asm f.0 f.1) files) HasLink
-asm-links None = tt
-asm-links (Some f) = tt
+asm-ranges : (files : Option (List ℕ × List ℕ)) → IfSome (option_map (λ f. asm f.0 f.1) files) IsInRange
+asm-ranges None = tt
+asm-ranges (Some f) = tt
 
-build-links : (files : Option (List ℕ × List ℕ)) → IfSome (option_map (λ f. build f.0 f.1) files) HasLink
-build-links None = tt
-build-links (Some f) = tt
+build-ranges : (files : Option (List ℕ × List ℕ)) → IfSome (option_map (λ f. build f.0 f.1) files) IsInRange
+build-ranges None = tt
+build-ranges (Some f) = tt
 
-tree-links : (file : Option (List ℕ)) → IfSome (option_map tree file) HasLink
-tree-links None = tt
-tree-links (Some f) = tt
+tree-ranges : (file : Option (List ℕ)) → IfSome (option_map tree file) IsInRange
+tree-ranges None = tt
+tree-ranges (Some f) = tt
 
-flat-links : (files : Option (List ℕ × List ℕ)) → IfSome (option_map (λ f. flat f.0 f.1) files) HasLink
-flat-links None = tt
-flat-links (Some f) = tt
+flat-ranges : (files : Option (List ℕ × List ℕ)) → IfSome (option_map (λ f. flat f.0 f.1) files) IsInRange
+flat-ranges None = tt
+flat-ranges (Some f) = tt
 
-link-below : (source target word : List ℕ) → IfSome (option_map (λ k. one source target k) (link_named word)) HasLink
+link-below : (source target word : List ℕ) → IfSome (option_map (λ k. one source target k) (link_named word)) IsInRange
 unfolding link_named
 link-below source target [] = tt
 link-below source target (c ∷ d ∷ ds) = tt
 link-below source target (c ∷ []) = at (nat_le 48 c && nat_le c 51) refl
   where
     at : (t : Bool) → (nat_le 48 c && nat_le c 51) ≡ t
-        → IfSome (option_map (λ k. one source target k) (cond {A = Option ℕ} t (Some (c - 48)) None)) HasLink
+        → IfSome (option_map (λ k. one source target k) (cond {A = Option ℕ} t (Some (c - 48)) None)) IsInRange
     at false t = tt
     at true t =
         let tests = both (nat_le 48 c) (nat_le c 51) t in
         let high : c ≤ 51 = leb-true c 51 tests.1 in
         omega (arith, high)
 
-one-links : (words : List (List ℕ)) → IfSome (one_asked words) HasLink
-one-links [] = tt
-one-links (a ∷ []) = tt
-one-links (a ∷ b ∷ []) = tt
-one-links (a ∷ b ∷ c ∷ []) =
+one-ranges : (words : List (List ℕ)) → IfSome (one_asked words) IsInRange
+one-ranges [] = tt
+one-ranges (a ∷ []) = tt
+one-ranges (a ∷ b ∷ []) = tt
+one-ranges (a ∷ b ∷ c ∷ []) =
     either (is_file_word a && is_file_word b) (option_map (λ k. one a b k) (link_named c)) None (link-below a b c) tt
-one-links (a ∷ b ∷ c ∷ d ∷ ds) = tt
+one-ranges (a ∷ b ∷ c ∷ d ∷ ds) = tt
 
-lib-links : (words : List (List ℕ)) → IfSome (lib_asked words) HasLink
-lib-links [] = tt
-lib-links (a ∷ []) = tt
-lib-links (a ∷ b ∷ bs) = either (list_all is_file_word (a ∷ b ∷ bs)) (Some (lib a (b ∷ bs))) None tt tt
+lib-ranges : (words : List (List ℕ)) → IfSome (lib_asked words) IsInRange
+lib-ranges [] = tt
+lib-ranges (a ∷ []) = tt
+lib-ranges (a ∷ b ∷ bs) = either (list_all is_file_word (a ∷ b ∷ bs)) (Some (lib a (b ∷ bs))) None tt tt
 
--- what is asked for has a link below 4
-pub asked-links : (words : List (List ℕ)) → IfSome (asked words) HasLink
+size-within : (word : List ℕ) → IfSome (option_map grid (size_named word)) IsInRange
+unfolding size_named
+size-within [] = tt
+size-within (c ∷ d ∷ ds) = tt
+size-within (c ∷ []) = at (nat_le 49 c && nat_le c 56) refl
+  where
+    at : (t : Bool) → (nat_le 49 c && nat_le c 56) ≡ t
+        → IfSome (option_map grid (cond {A = Option ℕ} t (Some (c - 48)) None)) IsInRange
+    at false t = tt
+    at true t =
+        let tests = both (nat_le 49 c) (nat_le c 56) t in
+        let low : 49 ≤ c = leb-true 49 c tests.0 in
+        let high : c ≤ 56 = leb-true c 56 tests.1 in
+        (omega (arith, low), omega (arith, high))
+
+replay-ranges : (files : Option (List ℕ × List ℕ)) → IfSome (option_map (λ f. replay f.0 f.1) files) IsInRange
+replay-ranges None = tt
+replay-ranges (Some f) = tt
+
+grid-ranges : (words : List (List ℕ)) → IfSome (grid_asked words) IsInRange
+grid-ranges [] = tt
+grid-ranges (a ∷ []) = size-within a
+grid-ranges (a ∷ b ∷ bs) = tt
+
+-- what is asked for has a link below 4, and the size of a grid is 1 to 8
+pub asked-ranges : (words : List (List ℕ)) → IfSome (asked words) IsInRange
 unfolding asked
-asked-links [] = tt
-asked-links (command ∷ words) =
-    either (bytes_eq command (codes "flat")) (option_map (λ f. flat f.0 f.1) (two_files words)) _ (flat-links (two_files words))
-    (either (bytes_eq command (codes "one")) (one_asked words) _ (one-links words)
-    (either (bytes_eq command (codes "asm")) (option_map (λ f. asm f.0 f.1) (two_files words)) _ (asm-links (two_files words))
-    (either (bytes_eq command (codes "lib")) (lib_asked words) _ (lib-links words)
-    (either (bytes_eq command (codes "build")) (option_map (λ f. build f.0 f.1) (two_files words)) _ (build-links (two_files words))
-    (either (bytes_eq command (codes "tree")) (option_map tree (one_file words)) None (tree-links (one_file words)) tt)))))
+asked-ranges [] = tt
+asked-ranges (command ∷ words) =
+    either (bytes_eq command (codes "flat")) (option_map (λ f. flat f.0 f.1) (two_files words)) _ (flat-ranges (two_files words))
+    (either (bytes_eq command (codes "one")) (one_asked words) _ (one-ranges words)
+    (either (bytes_eq command (codes "asm")) (option_map (λ f. asm f.0 f.1) (two_files words)) _ (asm-ranges (two_files words))
+    (either (bytes_eq command (codes "lib")) (lib_asked words) _ (lib-ranges words)
+    (either (bytes_eq command (codes "build")) (option_map (λ f. build f.0 f.1) (two_files words)) _ (build-ranges (two_files words))
+    (either (bytes_eq command (codes "tree")) (option_map tree (one_file words)) _ (tree-ranges (one_file words))
+    (either (bytes_eq command (codes "replay")) (option_map (λ f. replay f.0 f.1) (two_files words)) _ (replay-ranges (two_files words))
+    (either (bytes_eq command (codes "grid")) (grid_asked words) None (grid-ranges words) tt)))))))
 
 -- ---- what was read is what is asked for
 
@@ -309,11 +364,11 @@ read-some (Some a) (Err (Unwritten file)) h = absurd h
 read-some (Some a) (Err Unprinted) h = absurd h
 read-some (Some a) (Err (NotEnabled file line tokens)) h = absurd h
 
-pub read-link : (asked : Option Asked) (r : Result Command Refusal) → IfSome asked HasLink → IsReadAs asked_by asked (Some r)
-    → IfOk r (λ c. HasLink (asked_by c))
-read-link None (Ok c) h k = absurd k
-read-link (Some a) (Ok c) h k = subst HasLink k h
-read-link asked (Err why) h k = tt
+pub read-range : (asked : Option Asked) (r : Result Command Refusal) → IfSome asked IsInRange → IsReadAs asked_by asked (Some r)
+    → IfOk r (λ c. IsInRange (asked_by c))
+read-range None (Ok c) h k = absurd k
+read-range (Some a) (Ok c) h k = subst IsInRange k h
+read-range asked (Err why) h k = tt
 
 -- where there was no memory for the words, nothing was done
 pub ends-wanted : {T : Type 0} (what : Asked) (r : Result Command Refusal) (why : Refusal) → r ≡ Err why → IsFor what r

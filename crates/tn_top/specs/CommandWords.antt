@@ -1,5 +1,5 @@
 -- The words of a command line.
-use Rattle.std.specs.Prelude.{⊤, ℕ, ◌-◌, ◌<◌, Bool, ◌&&◌, nat_le, List, [], ◌∷◌, length, Option, Some, None, codes}
+use Rattle.std.specs.Prelude.{⊤, ℕ, ◌-◌, ◌<◌, ◌≤◌, Bool, ◌&&◌, nat_le, List, [], ◌∷◌, length, Option, Some, None, codes}
 use Rattle.std.specs.Prelude.{if◌then◌else◌}
 use Rattle.std.specs.List.{list_all}
 use Rattle.std.specs.Option.{option_map}
@@ -15,6 +15,8 @@ pub data Asked : Type 0 where
   lib : (target : List ℕ) (sources : List (List ℕ)) → Asked
   build : (config target : List ℕ) → Asked
   tree : (config : List ℕ) → Asked
+  replay : (config schedule : List ℕ) → Asked
+  grid : (size : ℕ) → Asked
 
 -- a word that may name a file: it isn't empty, doesn't begin with a minus sign, and has at most 255 bytes
 abbrev pub is_file_word : List ℕ → Bool
@@ -24,6 +26,11 @@ is_file_word word = is_plain_word word && nat_le (length word) FILE_NAME_LIMIT
 unfoldable pub link_named : List ℕ → Option ℕ
 link_named (c ∷ []) = if nat_le 48 c && nat_le c 51 then Some (c - 48) else None
 link_named _ = None
+
+-- the size of a grid that a word names, 1 to 8
+unfoldable pub size_named : List ℕ → Option ℕ
+size_named (c ∷ []) = if nat_le 49 c && nat_le c 56 then Some (c - 48) else None
+size_named _ = None
 
 -- two files
 abbrev pub two_files : List (List ℕ) → Option (List ℕ × List ℕ)
@@ -47,6 +54,11 @@ lib_asked (target ∷ source ∷ sources) =
     if list_all is_file_word (target ∷ source ∷ sources) then Some (lib target (source ∷ sources)) else None
 lib_asked _ = None
 
+-- the size of a grid
+abbrev pub grid_asked : List (List ℕ) → Option Asked
+grid_asked (size ∷ []) = option_map grid (size_named size)
+grid_asked _ = None
+
 -- what the words behind the word of a command ask for
 abbrev pub asked_of : List ℕ → List (List ℕ) → Option Asked
 asked_of command words =
@@ -55,14 +67,17 @@ asked_of command words =
     else (if bytes_eq command (codes "asm") then option_map (λ f. asm f.0 f.1) (two_files words)
     else (if bytes_eq command (codes "lib") then lib_asked words
     else (if bytes_eq command (codes "build") then option_map (λ f. build f.0 f.1) (two_files words)
-    else (if bytes_eq command (codes "tree") then option_map tree (one_file words) else None)))))
+    else (if bytes_eq command (codes "tree") then option_map tree (one_file words)
+    else (if bytes_eq command (codes "replay") then option_map (λ f. replay f.0 f.1) (two_files words)
+    else (if bytes_eq command (codes "grid") then grid_asked words else None)))))))
 
 -- what the words after the program's name ask for, if they spell a command
 unfoldable pub asked : List (List ℕ) → Option Asked
 asked [] = None
 asked (command ∷ words) = asked_of command words
 
--- a link of a command is below 4
-abbrev pub HasLink : Asked → Type 0
-HasLink (one source target link) = link < 4
-HasLink _ = ⊤
+-- a link of a command is below 4, and the size of a grid from 1 to 8
+abbrev pub IsInRange : Asked → Type 0
+IsInRange (one source target link) = link < 4
+IsInRange (grid size) = (1 ≤ size) × (size ≤ 8)
+IsInRange _ = ⊤

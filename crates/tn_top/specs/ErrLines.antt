@@ -9,7 +9,7 @@ use Rattle.tn_text.specs.FaultLines.{fault_line}
 use Rattle.tn_top.specs.declared.statuses.Status.{Status}
 use Rattle.tn_top.specs.declared.statuses.Status.TheVariants as status
 use Rattle.tn_io.specs.FileLists.{Files}
-use Rattle.tn_top.specs.Plans.{Answer, usage, fault, limit, refused, done, Plan, gives, stops, reads, Goes}
+use Rattle.tn_top.specs.Plans.{Answer, usage, unread, fault, limit, refused, done, Plan, gives, stops, reads, Goes}
 use Rattle.tn_top.specs.Outcomes.{CannotRead}
 use Rattle.tn_top.specs.Refusals.{usage_line, limit_line, unread_line, unwritten_line, unprinted_line, not_enabled_line, memory_line}
 
@@ -23,10 +23,11 @@ abbrev pub ComesTo : Option (Plan Answer) → Option Files → Answer → Type 0
 ComesTo None files answer = answer ≡ usage
 ComesTo (Some plan) files answer = Goes files plan (gives answer) ⊎ Goes files plan (stops answer)
 
--- it comes to where it reads a file
+-- it comes to where it reads a file, or where that is not one of its own
 abbrev pub ComesToRead : Option (Plan Answer) → Option Files → List ℕ → Type 0
 ComesToRead None files file = ⊥
-ComesToRead (Some plan) files file = (next : List ℕ → Plan Answer) × Goes files plan (reads file next)
+ComesToRead (Some plan) files file =
+    ((next : List ℕ → Plan Answer) × Goes files plan (reads file next)) ⊎ Goes files plan (stops (unread file))
 
 -- The line of a command that ended with a status: a row for each.
 abbrev pub IsLine : Option (Plan Answer) → Stored → Stored → Status → List ℕ → Type 0

@@ -3,4 +3,5 @@ pub mod Stages
 pub mod Ends
 pub mod Systems
 pub mod OneTrees
+pub mod Replays
 pub mod WordReading

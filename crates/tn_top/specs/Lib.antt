@@ -5,6 +5,10 @@ pub mod OneProcessor
 pub mod Plans
 pub mod ModulePlans
 pub mod SystemPlans
+pub mod OwnFiles
+pub mod SystemNets
+pub mod GridPlans
+pub mod ReplayPlans
 pub mod Commands
 pub mod Outcomes
 pub mod Builds

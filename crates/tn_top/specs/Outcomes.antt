@@ -1,5 +1,5 @@
 -- What a command promises of how it ends, and of what it leaves.
-use Rattle.std.specs.Prelude.{◌≡◌, ◌≢◌, ⊤, ℕ, ◌⊎◌, not, List, [], filter, take, Option, Some, None, IfSome, IsSomeAnd}
+use Rattle.std.specs.Prelude.{◌≡◌, ◌≢◌, ⊤, ℕ, ◌⊎◌, not, List, [], filter, take, Option, Some, None, IfSome}
 use Rattle.std.specs.Str.{bytes_eq}
 use Rattle.tn_text.specs.Counts.{Rose}
 use Rattle.tn_io.specs.FileLists.{Files, held}
@@ -10,7 +10,7 @@ use Rattle.tn_text.specs.declared.limits.Limit.{Limit}
 use Rattle.tn_top.specs.declared.statuses.Status.{Status}
 use Rattle.tn_top.specs.declared.statuses.Status.TheVariants as status
 use Rattle.tn_system.specs.Systems.{SystemState}
-use Rattle.tn_top.specs.Plans.{Answer, usage, unread, fault, limit, refused, done, Plan, gives, stops, reads, settles}
+use Rattle.tn_top.specs.Plans.{Answer, usage, unread, fault, limit, refused, done, Plan, gives, stops, reads, settles, Goes}
 use Rattle.tn_top.specs.Commands.{Answers}
 
 -- a relation between told files; nothing is said of files that are told neither before nor after
@@ -75,11 +75,18 @@ IsPrinted _ = ⊥
 abbrev pub AnswersLike : Option (Plan Answer) → Files → (Answer → Type 0) → Type 0
 AnswersLike asked files P = (answer : Answer) × Answers asked files answer × P answer
 
--- This file cannot be read: the files are told and the answer is that it isn't there; or a read failed,
--- and that is the answer without the file, where the files are told.
+-- the answer is that this file isn't there: over the files, where they are told; else whatever they hold,
+-- since it isn't one of a plan's own
+abbrev pub IsUnread : Option (Plan Answer) → Option Files → List ℕ → Type 0
+IsUnread asked (Some files) file = Answers asked files (unread file)
+IsUnread None None file = ⊥
+IsUnread (Some plan) None file = Goes None plan (stops (unread file))
+
+-- This file cannot be read: the answer is that it isn't there; or a read failed, and that is the answer
+-- without the file, where the files are told.
 abbrev pub CannotRead : Option (Plan Answer) → Stored → Stored → List ℕ → Type 0
 CannotRead asked before after file =
-    IsSomeAnd before.files (λ files. Answers asked files (unread file))
+    IsUnread asked before.files file
     ⊎ (Rose before.read_faults after.read_faults × IfSome before.files (λ files. Answers asked (without files file) (unread file)))
 
 -- What has to have happened where a command ends with a status: a row for each. `asked` is the plan that

@@ -1,25 +1,30 @@
-ghost use Rattle.std.specs.Prelude.{◌≡◌, ◌<◌, ℕ, List, map, string_bytes, None, Some, IfSome, IfOk};
+ghost use Rattle.std.specs.Prelude.{◌≡◌, ◌<◌, ◌≤◌, ℕ, List, map, string_bytes, None, Some, IfSome, IfOk};
 ghost use Rattle.tn_text.specs.Counts.{Rose};
 ghost use Rattle.tn_io.specs.Outs.{Printed};
+ghost use Rattle.tn_io.specs.Stores.{Stored};
 ghost use Rattle.tn_text.specs.declared.faults.Fault.{Fault};
 ghost use Rattle.tn_text.specs.declared.limits.Limit.{Limit};
-ghost use Rattle.tn_top.specs.CommandWords.{Asked, one, build, tree, asked, HasLink};
+ghost use Rattle.tn_top.specs.CommandWords.{Asked, one, build, tree, replay, grid, asked, IsInRange};
 ghost use Rattle.tn_top.specs.Inner.WordReading.{IsFor, asked_by};
 ghost use Rattle.tn_top.specs.OneProcessor.{boot_stream};
 ghost use Rattle.tn_io.specs.FileLists.{Files};
 ghost use Rattle.tn_top.specs.Plans.{Answer, fault, limit, refused, then_plan};
 ghost use Rattle.tn_top.specs.SystemPlans.{system_plan, stream_written, tree_printed};
+ghost use Rattle.tn_top.specs.GridPlans.{grid_plan};
+ghost use Rattle.tn_top.specs.ReplayPlans.{replay_plan};
 ghost use Rattle.tn_top.specs.Commands.{code_plan, assembler_plan, library_plan, written_from, plan_of, plan_asked, IsAnswer};
 ghost use Rattle.tn_top.specs.Outcomes.{Told, HasCause, NothingFailed, Unless, HasStatus, FilesAfter, PrintedAfter, Writes};
-ghost use Rattle.tn_top.specs.Builds.{IsBuilt, IsShown, IsStarted};
+ghost use Rattle.tn_top.specs.Builds.{IsBuilt, IsShown, IsReplayed, IsGridShown, IsStarted};
 ghost use Rattle.tn_top.specs.ErrLines.{Tells, IsLine};
 ghost use Rattle.tn_top.specs.Inner.Ends.{Ends};
 
 use crate::endings::write_file;
 use crate::err_lines::{tell_end, tell_usage};
+use crate::grids::{grid_file, grid_store, print_grid};
 use crate::one_processor::write_code_stream;
 use crate::reading::{read_code, read_library_text, read_module_of};
 use crate::refusals::{Refusal, status_of};
+use crate::replays::{print_replay, read_replay};
 use crate::statuses::Status;
 use crate::stream_files::write_stream;
 use crate::systems::read_system;
@@ -74,13 +79,19 @@ pub fn run<S: Store, O: Out>(
     // After `Done` of `build` the configuration makes a system, each image of which has code of the least
     // sizes, and the file holds its stream, which brings the network from power-up to rest after exactly
     // the number of steps of its load tree, loaded, in every order of steps and whatever its memories held.
+    // Once it is released its runs are those of the system's programs; so are they after `Done` of `replay`.
     ensures built { (config target : List ℕ) → asked (map string_bytes words.now) ≡ Some (build config target)
         → result ≡ Status.Done → IsBuilt config target (S.stored store.old) (S.stored store.new) }
 
-    // After `Done` of `tree` the stream whose length and steps are printed does so; and after `Done` of `one`
-    // that in the file does, with every processor whose memory has room for the code.
+    // After `Done` of `tree` the stream whose length and steps are printed does so; after `Done` of `replay` that
+    // which the host sends, and after `Done` of `grid` that of the grid's system; after `Done` of `one` that in the
+    // file, with every processor whose memory has room for the code.
     ensures shown { (config : List ℕ) → asked (map string_bytes words.now) ≡ Some (tree config) → result ≡ Status.Done
         → IsShown config (S.stored store.old) (O.printed out.old) (O.printed out.new) }
+    ensures replayed { (config schedule : List ℕ) → asked (map string_bytes words.now) ≡ Some (replay config schedule)
+        → result ≡ Status.Done → IsReplayed config schedule (S.stored store.old) (O.printed out.old) (O.printed out.new) }
+    ensures gridded { (size : ℕ) → asked (map string_bytes words.now) ≡ Some (grid size) → result ≡ Status.Done
+        → IsGridShown size (O.printed out.old) (O.printed out.new) }
     ensures started { (source target : List ℕ) (link : ℕ) → asked (map string_bytes words.now) ≡ Some (one source target link)
         → result ≡ Status.Done → IsStarted source target link (S.stored store.old) (S.stored store.new) }
 
@@ -108,7 +119,7 @@ fn perform<S: Store, O: Out>(
     store: &mut S,
     out: &mut O,
 ) -> Result<(), Refusal>
-    requires link { IfOk command (λ c. HasLink (asked_by c)) }
+    requires in_range { IfOk command (λ c. IsInRange (asked_by c)) }
     ensures ends { (what : Asked) → IsFor what command
         → Ends (plan_of what) (S.stored store.old) (S.stored store.new) (O.printed out.old) (O.printed out.new) result }
     ensures goes_on { O.goes_on out.old out.new }
@@ -128,6 +139,8 @@ fn perform<S: Store, O: Out>(
         Command::Lib { target, sources } => lib(alloc, &target, &sources, store),
         Command::Build { config, target } => build(alloc, &config, &target, store),
         Command::Tree { config } => tree(alloc, &config, store, out),
+        Command::Replay { config, schedule } => replay(alloc, &config, &schedule, store, out),
+        Command::Grid { size } => grid(alloc, size, out),
     }
 }
 
@@ -217,4 +230,33 @@ fn tree<S: Store, O: Out>(
 {
     let read = read_system(alloc, config, store)?;
     print_tree(alloc, &read, out)
+}
+
+/// Builds the system of a configuration, and replays the lines of a schedule in its network.
+fn replay<S: Store, O: Out>(
+    alloc: Global,
+    config: &FileName,
+    schedule: &FileName,
+    store: &mut S,
+    out: &mut O,
+) -> Result<(), Refusal>
+    ensures ends { Ends (replay_plan config.now schedule.now)
+        (S.stored store.old) (S.stored store.new) (O.printed out.old) (O.printed out.new) result }
+    ensures goes_on { O.goes_on out.old out.new }
+{
+    let input = read_replay(alloc, config, schedule, store)?;
+    print_replay(alloc, schedule, &input, out)
+}
+
+/// Makes a grid of `size` by `size` processors in a store of its own, builds its system, loads and runs
+/// its network, and prints what that comes to. It has nothing to do with the store of the other commands.
+fn grid<O: Out>(alloc: Global, size: u32, out: &mut O) -> Result<(), Refusal>
+    requires least { 1 ≤ size }
+    requires most { size ≤ 8 }
+    ensures ends { (stored : Stored) → Ends (grid_plan size) stored stored (O.printed out.old) (O.printed out.new) result }
+    ensures goes_on { O.goes_on out.old out.new }
+{
+    let mut own = grid_store(alloc, size)?;
+    let read = read_system(alloc, &grid_file(), &mut own)?;
+    print_grid(alloc, size, &read.system, out)
 }

@@ -43,6 +43,7 @@ pub fn read_system<S: Store>(
     ensures staged { Staged configured (system_plan file.now) (S.stored store.old) (S.stored store.new) result }
     ensures loadable { IfOk result (λ c. IsLoadable c.system) }
     ensures named { IfOk result (λ c. IsWholeTree c.system.tree.nodes.items (length c.config.blocks.items)) }
+    ensures few { IfOk result (λ c. length c.config.blocks.items ≤ PROCESSOR_LIMIT) }
 {
     let config = read_config_file(alloc, file, store)?;
     let system = read_files(alloc, file, &config, store)?;
@@ -57,6 +58,7 @@ fn read_config_file<S: Store>(
 ) -> Result<Config, Refusal>
     ensures staged { Staged config_of (config_plan file.now) (S.stored store.old) (S.stored store.new) result }
     ensures right { IfOk result (λ c. IsRightConfig (config_of c)) }
+    ensures few { IfOk result (λ c. length c.blocks.items ≤ PROCESSOR_LIMIT) }
 {
     let text = read_file(alloc, file, store)?;
     config_in(alloc, file, &text)
@@ -68,6 +70,7 @@ fn config_in(alloc: Global, file: &FileName, text: &[u8]) -> Result<Config, Refu
     requires { length text.now ≤ FILE_LIMIT }
     ensures made { Makes config_of (config_in file.now text.now) result }
     ensures right { IfOk result (λ c. IsRightConfig (config_of c)) }
+    ensures few { IfOk result (λ c. length c.blocks.items ≤ PROCESSOR_LIMIT) }
 {
     let config = match read_config(alloc, text) {
         Ok(config) => config,

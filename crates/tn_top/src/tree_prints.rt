@@ -38,7 +38,7 @@ pub fn print_tree<O: Out>(alloc: Global, read: &Configured, out: &mut O) -> Resu
 }
 
 /// The names of processors.
-fn names_of(alloc: Global, blocks: &[Block]) -> Result<Vec<Name>, AllocError>
+pub fn names_of(alloc: Global, blocks: &[Block]) -> Result<Vec<Name>, AllocError>
     ensures { IfOk result (λ names. names.items ≡ map (λ b. b.name) blocks.now) }
 {
     let mut names = Vec::new(alloc);

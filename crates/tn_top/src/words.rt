@@ -1,10 +1,10 @@
-ghost use Rattle.std.specs.Prelude.{◌≡◌, ◌<◌, ℕ, List, [], ◌∷◌, true, false, Some, None, map, string_bytes, IfSome, IfOk, IfErr};
+ghost use Rattle.std.specs.Prelude.{◌≡◌, ◌<◌, ◌≤◌, ℕ, List, [], ◌∷◌, true, false, Some, None, map, string_bytes, IfSome, IfOk, IfErr};
 ghost use Rattle.std.specs.Prelude.{IsSomeAnd, is_some, if◌then◌else◌};
 ghost use Rattle.std.specs.List.{list_all};
 ghost use Rattle.std.specs.Option.{option_map};
 ghost use Rattle.tn_top.specs.declared.refusals.Refusal.TheVariants.{NoMemory};
-ghost use Rattle.tn_top.specs.CommandWords.{flat, one, asm, lib, build, tree, is_file_word, link_named, one_file, two_files};
-ghost use Rattle.tn_top.specs.CommandWords.{one_asked, lib_asked, asked};
+ghost use Rattle.tn_top.specs.CommandWords.{flat, one, asm, lib, build, tree, replay, grid, is_file_word, link_named, size_named};
+ghost use Rattle.tn_top.specs.CommandWords.{one_file, two_files, one_asked, lib_asked, grid_asked, asked};
 ghost use Rattle.tn_top.specs.Inner.WordReading.{behind, IsReadAs, ReadsAs, asked_by};
 
 use crate::refusals::Refusal;
@@ -46,6 +46,15 @@ pub enum Command {
     Tree {
         config: FileName,
     },
+    /// Build the system of a configuration, and replay the lines of a schedule in its network.
+    Replay {
+        config: FileName,
+        schedule: FileName,
+    },
+    /// Make a grid of `size` by `size` processors, and print what its loading and its run come to.
+    Grid {
+        size: u32,
+    },
 }
 
 /// The command that the words after the program's name spell, if they spell one. A file's name is
@@ -65,6 +74,8 @@ pub fn command_of(alloc: Global, words: &[String]) -> Option<Result<Command, Ref
         "lib" => lib_words(alloc, words),
         "build" => build_words(alloc, words),
         "tree" => tree_words(alloc, words),
+        "replay" => replay_words(alloc, words),
+        "grid" => grid_words(alloc, words),
         _ => None,
     }
 }
@@ -129,6 +140,26 @@ fn tree_words(alloc: Global, words: &[String]) -> Option<Result<Command, Refusal
     }
 }
 
+/// The words of `replay CONFIG SCHEDULE`.
+fn replay_words(alloc: Global, words: &[String]) -> Option<Result<Command, Refusal>>
+    ensures { IsReadAs asked_by (option_map (λ f. replay f.0 f.1) (two_files (behind (map string_bytes words.now)))) result }
+{
+    match two_file_words(alloc, words)? {
+        Ok((config, schedule)) => Some(Ok(Command::Replay { config, schedule })),
+        Err(refusal) => Some(Err(refusal)),
+    }
+}
+
+/// The words of `grid N`.
+fn grid_words(alloc: Global, words: &[String]) -> Option<Result<Command, Refusal>>
+    ensures { IsReadAs asked_by (grid_asked (behind (map string_bytes words.now))) result }
+{
+    if !spell_grid(words) {
+        return None;
+    }
+    read_grid(alloc, words).transpose()
+}
+
 /// The file that the word behind a command's word names.
 fn one_file_words(alloc: Global, words: &[String]) -> Option<Result<FileName, Refusal>>
     ensures { IsReadAs (λ file. file) (one_file (behind (map string_bytes words.now))) result }
@@ -177,6 +208,16 @@ fn spell_one(words: &[String]) -> bool
         [_, source, target, link] => {
             is_file_word(source) && is_file_word(target) && link_of(link).is_some()
         }
+        _ => false,
+    }
+}
+
+/// Whether the word behind a command's word names the size of a grid.
+fn spell_grid(words: &[String]) -> bool
+    ensures { result ≡ is_some (grid_asked (behind (map string_bytes words.now))) }
+{
+    match words {
+        [_, size] => size_of(size).is_some(),
         _ => false,
     }
 }
@@ -236,6 +277,23 @@ fn one_command(source: Option<&str>, target: Option<&str>, link: Option<&str>) -
     })
 }
 
+/// The word of `grid`, as `clap` reads it.
+fn read_grid(alloc: Global, words: &[String]) -> Result<Option<Command>, Refusal>
+    ensures { ReadsAs asked_by (grid_asked (behind (map string_bytes words.now))) result }
+{
+    let matches = one_match(alloc, words)?;
+    Ok(grid_command(matches.get_str("first")))
+}
+
+/// The command `grid` of the word of a size, where it is there.
+fn grid_command(size: Option<&str>) -> Option<Command>
+    ensures { (word : List ℕ) → option_map (λ w. w.now) size.entry ≡ Some word
+        → option_map asked_by result ≡ option_map grid (size_named word) }
+{
+    let size = size_of(size?)?;
+    Some(Command::Grid { size })
+}
+
 /// The words of `lib`, as `clap` reads them.
 fn read_lib(alloc: Global, words: &[String]) -> Result<Option<Command>, Refusal>
     ensures { ReadsAs asked_by (lib_asked (behind (map string_bytes words.now))) result }
@@ -289,6 +347,18 @@ fn link_of(word: &str) -> Option<u8>
 {
     match word.as_bytes() {
         [digit @ b'0'..=b'3'] => Some(digit - b'0'),
+        _ => None,
+    }
+}
+
+/// The size of a grid that a word names: `1` to `8`.
+#[tactic(auto, using(std::proofs::lemmas::Bool::Decides::nat_tests), unfolding(crate::specs::CommandWords::size_named))]
+fn size_of(word: &str) -> Option<u32>
+    ensures value { result ≡ size_named word.now }
+    ensures within { IfSome result (λ size. (1 ≤ size) × (size ≤ 8)) }
+{
+    match word.as_bytes() {
+        [digit @ b'1'..=b'8'] => Some(u32::from(digit - b'0')),
         _ => None,
     }
 }

@@ -6,14 +6,20 @@ use Rattle.tn_top.specs.declared.refusals.Refusal.{Refusal}
 use Rattle.tn_top.specs.declared.refusals.Refusal.TheVariants.{Fault, Limit, Unread, Unwritten, Unprinted, NotEnabled, NoMemory}
 use Rattle.tn_system.specs.Sources.{Sources}
 use Rattle.tn_system.specs.Systems.{SystemState, IsSystem}
-use Rattle.tn_top.specs.Plans.{Answer, fault, limit, IsRefused, Plan, gives, stops, reads, Goes}
+use Rattle.tn_top.specs.Plans.{Answer, unread, fault, limit, IsRefused, Plan, gives, stops, reads, Goes}
+
+-- a plan came to a file that isn't there, or that was not read; or it lacks one of its own
+abbrev pub Unreadable : {A : Type 0} → Plan A → Stored → Stored → List ℕ → Type 0
+Unreadable {A} plan before after file =
+    ((next : List ℕ → Plan A) × Goes before.files plan (reads file next)
+    × (Rose before.read_faults after.read_faults ⊎ (told before.files file ≡ Some None)))
+    ⊎ Goes before.files plan (stops (unread file))
 
 -- why a plan gave no value over a store
 unfoldable pub Unable : {A : Type 0} → Plan A → Stored → Stored → Refusal → Type 0
 Unable plan before after (Fault file first) = Goes before.files plan (stops (fault file first))
 Unable plan before after (Limit word count) = Goes before.files plan (stops (limit word count))
-Unable {A} plan before after (Unread file) = (next : List ℕ → Plan A) × Goes before.files plan (reads file next)
-    × (Rose before.read_faults after.read_faults ⊎ (told before.files file ≡ Some None))
+Unable plan before after (Unread file) = Unreadable plan before after file
 Unable plan before after (Unwritten file) = ⊥
 Unable plan before after Unprinted = ⊥
 Unable plan before after (NotEnabled file line tokens) = ⊥

@@ -3,8 +3,8 @@ use Rattle.std.specs.Prelude.{◌≡◌, ⊤, ℕ, List, [], ◌∷◌, Option, 
 use Rattle.tn_top.specs.declared.refusals.Refusal.{Refusal}
 use Rattle.tn_top.specs.declared.refusals.Refusal.TheVariants.{NoMemory}
 use Rattle.tn_top.specs.declared.words.Command.{Command}
-use Rattle.tn_top.specs.declared.words.Command.TheVariants.{Flat, One, Asm, Lib, Build, Tree}
-use Rattle.tn_top.specs.CommandWords.{Asked, flat, one, asm, lib, build, tree}
+use Rattle.tn_top.specs.declared.words.Command.TheVariants.{Flat, One, Asm, Lib, Build, Tree, Replay, Grid}
+use Rattle.tn_top.specs.CommandWords.{Asked, flat, one, asm, lib, build, tree, replay, grid}
 
 -- the words behind the first
 abbrev pub behind : List (List ℕ) → List (List ℕ)
@@ -31,6 +31,8 @@ asked_by (Asm source target) = asm source target
 asked_by (Lib target sources) = lib target sources.items
 asked_by (Build config target) = build config target
 asked_by (Tree config) = tree config
+asked_by (Replay config schedule) = replay config schedule
+asked_by (Grid size) = grid size
 
 -- the command is what is asked for, unless there is no memory
 abbrev pub IsFor : Asked → Result Command Refusal → Type 0

@@ -1,20 +1,20 @@
 use Rattle.std.proofs.Common.{◌≡◌, ◌∙◌, sym, ap, subst, map, string_bytes}
 use Rattle.std.proofs.lemmas.Option.{same_Some}
 use Rattle.std.specs.Option.{option_map}
-use Rattle.tn_top.specs.CommandWords.{one, build, tree, asked}
+use Rattle.tn_top.specs.CommandWords.{one, build, tree, replay, grid, asked}
 use Rattle.tn_top.specs.Commands.{plan_of, plan_asked}
 use Rattle.tn_top.specs.Refusals.{end_line}
 use Rattle.tn_top.proofs.PlanLaws.{one_of_asked}
 use Rattle.tn_top.specs.Inner.Ends.{Ends}
-use Rattle.tn_top.proofs.BuildLaws.{ends-built, ends-shown, ends-started}
+use Rattle.tn_top.proofs.BuildLaws.{ends-built, ends-shown, ends-replayed, ends-gridded, ends-started}
 use Rattle.tn_top.proofs.RunLaws.{runs, run_line}
-use Rattle.tn_top.proofs.WordReading.{asked-links, read-some, read-link}
+use Rattle.tn_top.proofs.WordReading.{asked-ranges, read-some, read-range}
 use Rattle.tn_top.proofs.commands.run.Goals as goal
 
 pub perform-ended-requires : goal.perform-ended-requires
 perform-ended-requires g c =
     record {
-      link = read-link (asked (map string_bytes c.args.words.now)) c.in-Some.command (asked-links (map string_bytes c.args.words.now))
+      in_range = read-range (asked (map string_bytes c.args.words.now)) c.in-Some.command (asked-ranges (map string_bytes c.args.words.now))
           c.in-Some.ensures;
     }
 
@@ -94,6 +94,28 @@ returns-clause-shown g c = λ config is said.
     let what : found.what ≡ tree config = same_Some found.what (tree config) (sym found.is ∙ is) in
     let ended = c.perform-ended.ensures.ends found.what found.reads in
     ends-shown config (g.S.Store.stored c.args.store.now) (g.S.Store.stored c.perform-ended.new.store)
+    (g.O.Out.printed c.args.out.now) (g.O.Out.printed c.perform-ended.new.out) c.perform-ended.result
+    (subst (λ a. Ends (plan_of a) (g.S.Store.stored c.args.store.now) (g.S.Store.stored c.perform-ended.new.store)
+    (g.O.Out.printed c.args.out.now) (g.O.Out.printed c.perform-ended.new.out) c.perform-ended.result) what ended)
+    (sym c.status_of.ensures ∙ said)
+
+pub returns-clause-replayed : goal.returns-clause-replayed
+returns-clause-replayed g c = λ config schedule is said.
+    let found = read-some (asked (map string_bytes c.args.words.now)) c.in-Some.command c.in-Some.ensures in
+    let what : found.what ≡ replay config schedule = same_Some found.what (replay config schedule) (sym found.is ∙ is) in
+    let ended = c.perform-ended.ensures.ends found.what found.reads in
+    ends-replayed config schedule (g.S.Store.stored c.args.store.now) (g.S.Store.stored c.perform-ended.new.store)
+    (g.O.Out.printed c.args.out.now) (g.O.Out.printed c.perform-ended.new.out) c.perform-ended.result
+    (subst (λ a. Ends (plan_of a) (g.S.Store.stored c.args.store.now) (g.S.Store.stored c.perform-ended.new.store)
+    (g.O.Out.printed c.args.out.now) (g.O.Out.printed c.perform-ended.new.out) c.perform-ended.result) what ended)
+    (sym c.status_of.ensures ∙ said)
+
+pub returns-clause-gridded : goal.returns-clause-gridded
+returns-clause-gridded g c = λ size is said.
+    let found = read-some (asked (map string_bytes c.args.words.now)) c.in-Some.command c.in-Some.ensures in
+    let what : found.what ≡ grid size = same_Some found.what (grid size) (sym found.is ∙ is) in
+    let ended = c.perform-ended.ensures.ends found.what found.reads in
+    ends-gridded size (g.S.Store.stored c.args.store.now) (g.S.Store.stored c.perform-ended.new.store)
     (g.O.Out.printed c.args.out.now) (g.O.Out.printed c.perform-ended.new.out) c.perform-ended.result
     (subst (λ a. Ends (plan_of a) (g.S.Store.stored c.args.store.now) (g.S.Store.stored c.perform-ended.new.store)
     (g.O.Out.printed c.args.out.now) (g.O.Out.printed c.perform-ended.new.out) c.perform-ended.result) what ended)

@@ -34,3 +34,8 @@ returns-clause-right c =
       admitted = c.in-Ok.ensures.admitted (omega (arith, config.blocks.ok.0, c.len.ensures, c.if-len-gt-PROCESSOR_LIMIT.false));
       few_files = omega (arith, c.in-Ok.ensures.files, c.requires);
     }
+
+pub returns-clause-few : goal.returns-clause-few
+returns-clause-few c =
+    let config = c.in-Ok.config in
+    omega (arith, config.blocks.ok.0, c.len.ensures, c.if-len-gt-PROCESSOR_LIMIT.false)

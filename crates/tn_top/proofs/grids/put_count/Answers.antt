@@ -1,0 +1,23 @@
+use Rattle.std.proofs.Common.{codes}
+use Rattle.std.specs.Fmt.{decimal}
+use Rattle.tn_text.specs.WordTexts.{spaced}
+use Rattle.tn_text.proofs.Putting.{Puts-joined, Puts-stopped, Puts-refused}
+use Rattle.tn_list.specs.TreeTexts.{count_line}
+use Rattle.tn_top.proofs.grids.put_count.Goals as goal
+
+pub returns-in_err-put-clause-puts : goal.returns-in_err-put-clause-puts
+unfolding count_line
+returns-in_err-put-clause-puts g c =
+    Puts-refused c.from_residual.ensures.0
+    (Puts-stopped (codes "\n") (Puts-stopped (spaced (decimal c.args.number)) c.in_err-put.ensures.puts))
+
+pub returns-in_err-put_spaced_decimal-clause-puts : goal.returns-in_err-put_spaced_decimal-clause-puts
+unfolding count_line
+returns-in_err-put_spaced_decimal-clause-puts g c =
+    Puts-refused c.from_residual-in_err-put_spaced_decimal.ensures.0
+    (Puts-stopped (codes "\n") (Puts-joined c.in_ok-put.ensures.puts c.in_err-put_spaced_decimal.ensures.puts))
+
+pub returns-clause-puts : goal.returns-clause-puts
+unfolding count_line
+returns-clause-puts g c =
+    Puts-joined (Puts-joined c.in_ok-put.ensures.puts c.in_ok-put_spaced_decimal.ensures.puts) c.put-2.ensures.puts
