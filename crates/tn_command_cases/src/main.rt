@@ -1,4 +1,4 @@
-//! Runs the table of cases of commands in data/: files, words and failing calls of the store and of the
+//! Runs the tables of cases of commands in data/: files, words and failing calls of the store and of the
 //! outputs, and the status, the printed lines and the files after.
 #![tactic(auto)]
 
@@ -8,24 +8,25 @@ use std::alloc::Global;
 use std::io;
 use tn_tables::{Case, Report, Stop, Tables, run_tables};
 
-/// The table of commands.
+/// The tables, in the order of what is printed: of all commands, and of those that run networks.
+const TABLES: [&str; 2] = ["commands", "replays"];
+
+/// The tables of commands, which have one form.
 struct CommandTables;
 
 impl Tables for CommandTables {
+    /// Runs a case, whatever the table.
     fn run_case(
         &self,
         alloc: Global,
-        table: &str,
+        _table: &str,
         case: &Case<'_>,
         report: &mut Report,
     ) -> Result<(), Stop> {
-        match table {
-            "commands" => commands::run_case(alloc, case, report),
-            _ => Err(Stop::BadCase),
-        }
+        commands::run_case(alloc, case, report)
     }
 }
 
 fn main(rt: HostRuntime) -> io::Result<()> {
-    run_tables(&rt, &["commands"], &CommandTables)
+    run_tables(&rt, &TABLES, &CommandTables)
 }

@@ -1,11 +1,13 @@
 -- Tests of a description of a network, which it passes before it is checked.
 use Rattle.std.specs.Prelude.{ℕ, ◌%◌, ◌==◌, Bool, true, not, ◌&&◌, nat_le, List, [], ◌∷◌, Option, None, Some}
 use Rattle.std.specs.List.{list_all}
+use Rattle.tn_mem.specs.Sizes.{memory_size_least, memory_size_most}
 use Rattle.tn_net.specs.RawNetworks.{RawLists}
 
 -- the size of a processor's memory is one
 abbrev pub has_size : (List ℕ × ℕ × ℕ) → Bool
-has_size processor = nat_le 4096 processor.1 && (nat_le processor.1 1048576 && processor.1 % 4 == 0)
+has_size processor =
+    nat_le memory_size_least processor.1 && (nat_le processor.1 memory_size_most && processor.1 % 4 == 0)
 
 -- the links of a wire are those of processors
 abbrev pub has_links : (List ℕ × ℕ × List ℕ × ℕ × ℕ) → Bool

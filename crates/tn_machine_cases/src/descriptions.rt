@@ -5,6 +5,7 @@ ghost use Rattle.tn_net.specs.Lines.{IsAdmitted};
 ghost use Rattle.tn_machine_cases.specs.Admission.{has_size, has_links, is_apart, are_apart, host_fits, passes};
 
 use std::alloc::Global;
+use tn_mem::{MEMORY_SIZE_LEAST, MEMORY_SIZE_MOST};
 use tn_net::RawNetwork;
 use tn_tables::{Case, Stop, number};
 use tn_text::Name;
@@ -88,8 +89,8 @@ fn passes(raw: &RawNetwork) -> bool
 fn have_sizes(names: &[(Name, u32, u32)]) -> bool
     ensures { result ≡ list_all has_size names.now }
 {
-    names.iter().all(|processor| 4096 <= processor.1
-        && (processor.1 <= 1_048_576 && processor.1 % 4 == 0))
+    names.iter().all(|processor| MEMORY_SIZE_LEAST <= processor.1
+        && (processor.1 <= MEMORY_SIZE_MOST && processor.1 % 4 == 0))
 }
 
 fn have_links(wires: &[Wire]) -> bool

@@ -3,6 +3,7 @@ ghost use Rattle.tn_net.specs.WholeTrees.{IsWholeTree};
 ghost use Rattle.tn_stream.specs.Images.{segment_of, segments_of, image_of, images_of, IsSegment, IsImage, AreImages};
 
 use std::alloc::Global;
+use tn_mem::MEMORY_SIZE_MOST;
 use tn_stream::{Image, Segment};
 use tn_tables::{Case, Line, Stop, byte, number};
 
@@ -108,5 +109,5 @@ fn are_segments(segments: &[Segment]) -> bool
 fn is_segment(segment: &Segment) -> bool
     ensures { IsTrue result → IsSegment (segment_of segment.now) }
 {
-    1 <= segment.bytes.len() && segment.bytes.len() <= 1_048_576
+    1 <= segment.bytes.len() && segment.bytes.len() <= MEMORY_SIZE_MOST as usize
 }

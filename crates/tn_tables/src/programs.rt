@@ -16,19 +16,21 @@ pub trait Tables {
     ) -> Result<(), Stop>;
 }
 
-/// Runs the tables of these names, in this order, and prints what they gave. Each is the file
-/// `NAME.txt` in the folder that the program's first word names.
+/// Runs the tables of these names, in this order, and prints what they gave. A table is the file
+/// `NAME.txt` in the folder that the program's first word names. A second word is the name of one
+/// table, which is then run alone.
 pub fn run_tables<T: Tables>(rt: &HostRuntime, names: &[&str], tables: &T) -> io::Result<()> {
-    let folder = folder_of(rt)?;
+    let mut words = env::args(rt)?;
+    let _program = words.next();
+    let folder = match words.next() {
+        Some(folder) => folder,
+        None => String::from_str(rt.alloc(), ".")?,
+    };
     let mut report = Report::new(rt.alloc());
-    let mut ended = Ok(());
-    for name in names {
-        let text = text_of(rt, folder.as_str(), name)?;
-        ended = run_table(rt.alloc(), tables, name, text.as_str(), &mut report);
-        if ended.is_err() {
-            break;
-        }
-    }
+    let ended = match words.next() {
+        Some(name) => run_file(rt, folder.as_str(), name.as_str(), tables, &mut report)?,
+        None => run_files(rt, folder.as_str(), names, tables, &mut report)?,
+    };
     rt.print(report.text())?;
     rt.println(if ended.is_ok() {
         "all tables were run"
@@ -37,18 +39,34 @@ pub fn run_tables<T: Tables>(rt: &HostRuntime, names: &[&str], tables: &T) -> io
     })
 }
 
-/// The folder of the tables: the first word after the program's name.
-fn folder_of(rt: &HostRuntime) -> io::Result<String> {
-    match env::args(rt)?.nth(1) {
-        Some(folder) => Ok(folder),
-        None => Ok(String::from_str(rt.alloc(), ".")?),
+/// Runs the tables of these names, up to one for which memory runs out.
+fn run_files<T: Tables>(
+    rt: &HostRuntime,
+    folder: &str,
+    names: &[&str],
+    tables: &T,
+    report: &mut Report,
+) -> io::Result<Result<(), Stop>> {
+    for name in names {
+        let ended = run_file(rt, folder, name, tables, report)?;
+        if ended.is_err() {
+            return Ok(ended);
+        }
     }
+    Ok(Ok(()))
 }
 
-/// The text of a table.
-fn text_of(rt: &HostRuntime, folder: &str, table: &str) -> io::Result<String> {
-    let path = format!(in rt.alloc(); "{folder}/{table}.txt")?;
-    fs::read_to_string(rt, path.as_str())
+/// Runs the table of a name.
+fn run_file<T: Tables>(
+    rt: &HostRuntime,
+    folder: &str,
+    name: &str,
+    tables: &T,
+    report: &mut Report,
+) -> io::Result<Result<(), Stop>> {
+    let path = format!(in rt.alloc(); "{folder}/{name}.txt")?;
+    let text = fs::read_to_string(rt, path.as_str())?;
+    Ok(run_table(rt.alloc(), tables, name, text.as_str(), report))
 }
 
 fn run_table<T: Tables>(
