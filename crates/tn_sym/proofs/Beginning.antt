@@ -1,5 +1,27 @@
 -- Where the loaded network and the symbolic one begin.
-use Rattle.std.proofs.Common.{◌≡◌, ◌⊎◌, inl, inr, ℕ, zero, suc, ◌^◌, ◌<◌, ◌≤◌, ℤ, true, false, List, [], ◌∷◌, length, map, Option, Some, None}
+use Rattle.std.proofs.Common.{
+  ◌≡◌,
+  ◌⊎◌,
+  inl,
+  inr,
+  ℕ,
+  zero,
+  suc,
+  ◌^◌,
+  ◌<◌,
+  ◌≤◌,
+  ℤ,
+  true,
+  false,
+  List,
+  [],
+  ◌∷◌,
+  length,
+  map,
+  Option,
+  Some,
+  None,
+}
 use Rattle.std.proofs.Common.{refl, sym, ap, subst, ◌∙◌, arith}
 use Rattle.std.specs.Prelude.{◌==◌, All, slice_get, slice_index, find}
 use Rattle.std.specs.Option.{option_map}
@@ -34,7 +56,7 @@ use Rattle.tn_stream.specs.PlainImages.{LiesIn}
 use Rattle.tn_sym.specs.Inner.Items.{AreItems}
 use Rattle.tn_sym.specs.Inner.NetsBeside.{IsBeside}
 use Rattle.tn_sym.specs.Inner.Wholes.{Coded, SameNodes}
-use Rattle.tn_sym.proofs.Beginnings.{begins}
+use Rattle.tn_sym.proofs.WholeBeginnings.{begins}
 use Rattle.tn_sym.specs.declared.codes.Instruction.{Instruction}
 use Rattle.tn_sym.specs.ProgramStates.{ProgramState}
 use Rattle.tn_sym.specs.Symbolic.{CodeState, SymbolicState, code_at, instruction_at}
@@ -56,7 +78,13 @@ code-held : (size : ℕ) (p : ProgramState) (image : ImageBytes) (code : CodeSta
 code-held size p image code t memory b c target all = by_first b.first
   where
     short : length code.bytes ≤ CODE_LIMIT
-    short = omega (arith, ap length c.bytes, ap (λ l. length l.code) b.linked.seen, b.linked.is_linked.code_length, b.linked.is_linked.short_code)
+    short = omega (
+      arith,
+      ap length c.bytes,
+      ap (λ l. length l.code) b.linked.seen,
+      b.linked.is_linked.code_length,
+      b.linked.is_linked.short_code,
+    )
 
     ends : code_end code < 2 ^ 32
     ends = omega (arith, c.base, b.code_base.below, short)
@@ -94,7 +122,8 @@ pub record IsCodedIn (code : CodeState) (memory : List ℕ) (c : Coded) : Type 0
   pub own : c.code ≡ memory
   pub coded : IsCoded code c
 
-module _ (size : ℕ) (p : ProgramState) (image : ImageBytes) (code : CodeState) (memory : List ℕ) (b : Belongs size p image) (c : IsCodeOf p code)
+module _ (size : ℕ) (p : ProgramState) (image : ImageBytes) (code : CodeState) (memory : List ℕ) (b : Belongs size p image)
+    (c : IsCodeOf p code)
     (valid : AreModules p.modules) (held : IsHeld code memory) where
   same-sizes : b.linked.is_linked.sizes ≡ c.sizes
   same-sizes =
@@ -106,24 +135,28 @@ module _ (size : ℕ) (p : ProgramState) (image : ImageBytes) (code : CodeState)
 
   own_items : ℕ → Option (Fun × ℤ)
   own_items a =
-      items p.modules p.linked.cell_base b.cell_base valid b.linkable.defined b.linked.is_linked.few_items b.linked.is_linked.few_cells c.sizes
+      items p.modules p.linked.cell_base b.cell_base valid b.linkable.defined b.linked.is_linked.few_items
+      b.linked.is_linked.few_cells c.sizes
       c.least short p.linked.code_base a
 
   own-agree : (a : ℕ) → instruction_at code a ≡ option_map (made a) (own_items a)
   unfolding own_items
   own-agree a =
       ap (find (λ (n : Instruction). n.address == a)) c.instructions
-      ∙ instructions-items p.modules p.linked.cell_base b.cell_base valid b.linkable.defined b.linked.is_linked.few_items
+      ∙ instructions-items p.modules p.linked.cell_base b.cell_base valid b.linkable.defined
+      b.linked.is_linked.few_items
       b.linked.is_linked.few_cells c.sizes c.least short p.linked.code_base a
 
   own-among : (a : ℕ) (f : Fun) (e : ℤ) → own_items a ≡ Some (f, e) → IsAmong code.bytes code.base a f e
   unfolding own_items
   own-among a f e is =
       let bytes : link.code (program p.modules p.linked.cell_base) c.sizes ≡ code.bytes =
-      ap (link.code (program p.modules p.linked.cell_base)) (sym same-sizes) ∙ (sym b.linked.is_linked.code_is ∙ ap (λ l. l.code) b.linked.seen ∙ sym c.bytes) in
+      ap (link.code (program p.modules p.linked.cell_base)) (sym same-sizes) ∙
+      (sym b.linked.is_linked.code_is ∙ ap (λ l. l.code) b.linked.seen ∙ sym c.bytes) in
       subst (λ (base : ℕ). IsAmong code.bytes base a f e) (sym c.base)
       (subst (λ (all : List ℕ). IsAmong all p.linked.code_base a f e) bytes
-      (items-among p.modules p.linked.cell_base b.cell_base valid b.linkable.defined b.linked.is_linked.few_items b.linked.is_linked.few_cells
+      (items-among p.modules p.linked.cell_base b.cell_base valid b.linkable.defined
+      b.linked.is_linked.few_items b.linked.is_linked.few_cells
       c.sizes c.least short p.linked.code_base a f e is))
 
   own-are : AreItems memory code.base (code_end code) own_items
@@ -146,7 +179,7 @@ nothing = record { code = []; from = 0; to = 0; items = λ a. None; are = λ a f
     clash : (t : Fun × ℤ) → None ≡ Some t → ⊥
     clash t is = cc
 
-loaded-at : (memory : List ℕ → List ℕ) (nodes : List (NodeState (List ℕ))) (targets : List Target) → AreLoadedNodes memory nodes targets
+pub loaded-at : (memory : List ℕ → List ℕ) (nodes : List (NodeState (List ℕ))) (targets : List Target) → AreLoadedNodes memory nodes targets
     → (length nodes ≡ length targets) × ((p : ℕ) (n : NodeState (List ℕ)) (t : Target) → slice_get nodes p ≡ Some n
     → slice_get targets p ≡ Some t → IsLoadedNode memory n t)
 loaded-at memory [] [] h = (refl, λ p n t here is. cc)
@@ -309,8 +342,10 @@ module _ (n : NetState) (programs : List ProgramState) (images : List ImageBytes
       let from : (coded p).from ≡ (region_of k.program).0 = known.coded.from ∙ (is-code p k).base in
       let to : (coded p).to ≡ (region_of k.program).1 =
       known.coded.to ∙ omega (arith, (is-code p k).base, ap length (is-code p k).bytes) in
-      subst (λ (a : ℕ). SameNodes coded p k.node (node_over (record { bytes = k.node.cpu.memory; from = a; to = (region_of k.program).1 }) k.node)) from
-      (subst (λ (b : ℕ). SameNodes coded p k.node (node_over (record { bytes = k.node.cpu.memory; from = (coded p).from; to = b }) k.node)) to
+      subst (λ (a : ℕ). SameNodes coded p k.node (node_over (record
+      { bytes = k.node.cpu.memory; from = a; to = (region_of k.program).1 }) k.node)) from
+      (subst (λ (b : ℕ). SameNodes coded p k.node (node_over (record { bytes = k.node.cpu.memory; from = (coded p).from; to = b })
+      k.node)) to
       (begins coded p k.node known.own over runs clear (board.sound p k.node k.node_at) l.quiet))
     where
       running : (life : Life) → is_running (mode_at Over life) ≡ true → life ≡ Running
@@ -350,4 +385,5 @@ module _ (n : NetState) (programs : List ProgramState) (images : List ImageBytes
 
 -- the theorem
 pub execution : Execution
-execution n programs images s board lifted valid belong loaded begun = follows-loaded n programs images s board valid belong loaded begun lifted
+execution n programs images s board lifted valid belong loaded begun = follows-loaded n programs images s board valid belong loaded
+    begun lifted

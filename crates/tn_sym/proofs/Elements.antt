@@ -27,10 +27,10 @@ abbrev pub joined : {X B : Type 0} → (ℕ → X → List B) → ℕ → List X
 joined h i [] = []
 joined h i (x ∷ xs) = h i x ++ joined h (i + 1) xs
 
-step-at : {X : Type 0} (i : ℕ) (front : List X) (x : X) → i ≡ length front → i + 1 ≡ length (front ++ x ∷ [])
+pub step-at : {X : Type 0} (i : ℕ) (front : List X) (x : X) → i ≡ length front → i + 1 ≡ length (front ++ x ∷ [])
 step-at i front x at = omega (arith, at, length-append front (x ∷ []))
 
-step-is : {X : Type 0} (all front : List X) (x : X) (xs : List X) → all ≡ front ++ x ∷ xs → all ≡ (front ++ x ∷ []) ++ xs
+pub step-is : {X : Type 0} (all front : List X) (x : X) (xs : List X) → all ≡ front ++ x ∷ xs → all ≡ (front ++ x ∷ []) ++ xs
 step-is all front x xs is = is ∙ sym (append_assoc front (x ∷ []) xs)
 
 -- the element behind others is at the place of their number
@@ -44,7 +44,8 @@ pub flat-joined : {X B : Type 0} (h : ℕ → X → List B) (d : X) (all front x
     → flat_map (λ k. h k (slice_index_or all k d)) (range_with_len i (length xs)) ≡ joined h i xs
 flat-joined h d all front [] i at is = refl
 flat-joined {X} {B} h d all front (x ∷ xs) i at is =
-    ap (λ (y : X). h i y ++ flat_map (λ k. h k (slice_index_or all k d)) (range_with_len (i + 1) (length xs))) (seam d all front x xs i at is)
+    ap (λ (y : X). h i y ++ flat_map (λ k. h k (slice_index_or all k d)) (range_with_len (i + 1) (length xs)))
+    (seam d all front x xs i at is)
     ∙ ap (λ (rest : List B). h i x ++ rest)
     (flat-joined h d all (front ++ x ∷ []) xs (i + 1) (step-at i front x at) (step-is all front x xs is))
 
@@ -87,7 +88,7 @@ module _ (modules : List Parts) (cell_base : ℕ) (sizes : List ℕ) where
   abbrev pub bytes_of : ℕ → ℕ × Item → List ℕ
   bytes_of i site = element_bytes sizes i (element (target modules site.0) cell_base site.1)
 
-  bytes-executed : (i m : ℕ) (x : Item) (t : Fun × ℤ) → executed modules cell_base sizes i m x ≡ Some t
+  pub bytes-executed : (i m : ℕ) (x : Item) (t : Fun × ℤ) → executed modules cell_base sizes i m x ≡ Some t
       → bytes_of i (m, x) ≡ coding t.0 t.1
   bytes-executed i m (item.Direct f o) t e = ap (λ (s : Option (Fun × ℤ)). coding (one_of t s).0 (one_of t s).1) e
   bytes-executed i m (item.Plain op) t e = ap (λ (s : Option (Fun × ℤ)). coding (one_of t s).0 (one_of t s).1) e
@@ -162,8 +163,15 @@ module _ (modules : List Parts) (cell_base : ℕ) (sizes : List ℕ) where
               → ((base + position sizes i) == a) ≡ test
               → find (λ (n : Instruction). n.address == a) (instructions_from modules cell_base sizes base (i + 1) sites) ≡ option_map
               (made a) (looked (i + 1) sites a)
-              → cond test (Some (record { address = base + position sizes i; size = slice_index sizes i; fun = t.0; operand = word_of t.1 }))
-              (find (λ (n : Instruction). n.address == a) (instructions_from modules cell_base sizes base (i + 1) sites)) ≡ option_map (made a)
+              → cond test (Some (record {
+                address = base + position sizes i;
+                size = slice_index sizes i;
+                fun = t.0;
+                operand = word_of
+                    t.1;
+              }))
+              (find (λ (n : Instruction). n.address == a) (instructions_from modules cell_base sizes base (i + 1) sites)) ≡ option_map
+              (made a)
               (if test then Some t else looked (i + 1) sites a)
           by_test t shape true place again =
               let there : base + position sizes i ≡ a = eqb-true (base + position sizes i) a place in
@@ -176,7 +184,8 @@ module _ (modules : List Parts) (cell_base : ℕ) (sizes : List ℕ) where
               → find (λ (n : Instruction). n.address == a) (instructions_from modules cell_base sizes base (i + 1) sites) ≡ option_map
               (made a) (looked (i + 1) sites a)
               → find (λ (n : Instruction). n.address == a)
-              (instruction_of (base + position sizes i) (slice_index sizes i) o ++ instructions_from modules cell_base sizes base (i + 1) sites)
+              (instruction_of (base + position sizes i) (slice_index sizes i) o ++ instructions_from modules cell_base sizes base
+              (i + 1) sites)
               ≡ option_map (made a) (looked_one (base + position sizes i) o a (looked (i + 1) sites a))
           by_item None shape again = again
           by_item (Some t) shape again = by_test t shape ((base + position sizes i) == a) refl again

@@ -5,10 +5,15 @@ pub mod Processors
 pub mod Nodes
 pub mod NetsBeside
 pub mod Wholes
-pub mod Beginnings
+pub mod WholeBeginnings
 pub mod Lists
 pub mod Elements
 pub mod LinkedCode
 pub mod Sameness
 pub mod Runs
 pub mod Beginning
+pub mod ReadCode
+pub mod Begun
+pub mod Stepping
+pub mod Compared
+pub mod Targets

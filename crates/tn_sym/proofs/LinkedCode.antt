@@ -41,7 +41,7 @@ use Rattle.tn_link.proofs.Fitness.{fit-program}
 use Rattle.tn_link.proofs.Meanings.{near-targets}
 use Rattle.tn_link.proofs.Ranges.{all-joined}
 use Rattle.tn_sym.specs.Inner.Items.{IsItem as IsItemAt}
-use Rattle.tn_sym.proofs.Beginnings.{item-linked}
+use Rattle.tn_sym.proofs.WholeBeginnings.{item-linked}
 use Rattle.tn_sym.specs.declared.codes.Instruction.{Instruction}
 use Rattle.tn_sym.specs.Symbolic.{CodeState}
 use Rattle.tn_sym.specs.Same.{code_end}
@@ -62,11 +62,11 @@ fits-distance a b first second = omega (arith, ints)
 
 -- ---- lists of items
 
-map-flat : {X Y Z : Type 0} (f : Y → Z) (g : X → List Y) (xs : List X) → map f (flat_map g xs) ≡ flat_map (λ x. map f (g x)) xs
+pub map-flat : {X Y Z : Type 0} (f : Y → Z) (g : X → List Y) (xs : List X) → map f (flat_map g xs) ≡ flat_map (λ x. map f (g x)) xs
 map-flat f g [] = refl
 map-flat {X} {Y} {Z} f g (x ∷ xs) = map-append f (g x) (flat_map g xs) ∙ ap (λ (rest : List Z). map f (g x) ++ rest) (map-flat f g xs)
 
-flat-same : {X Z : Type 0} (g h : X → List Z) (xs : List X) → ((x : X) → g x ≡ h x) → flat_map g xs ≡ flat_map h xs
+pub flat-same : {X Z : Type 0} (g h : X → List Z) (xs : List X) → ((x : X) → g x ≡ h x) → flat_map g xs ≡ flat_map h xs
 flat-same g h [] same = refl
 flat-same {X} {Z} g h (x ∷ xs) same =
     ap (λ (front : List Z). front ++ flat_map g xs) (same x) ∙ ap (λ (rest : List Z). h x ++ rest) (flat-same g h xs same)
@@ -169,7 +169,7 @@ module _ (modules : List Parts) (cell_base : ℕ) (base : IsBase cell_base) (val
               (All-get_or (λ (s : ℕ × Item). (s.0 < length modules) × IsItem s.1) (sites modules) i other within sited);
         }
 
-    fits : (i : ℕ) (front : List (ℕ × Item)) (site : ℕ × Item) (rest : List (ℕ × Item)) → i ≡ length front
+    pub fits : (i : ℕ) (front : List (ℕ × Item)) (site : ℕ × Item) (rest : List (ℕ × Item)) → i ≡ length front
         → sites modules ≡ front ++ site ∷ rest → Fits (executed modules cell_base sizes i site.0 site.1)
     fits i front site rest at is =
         let p = place i front site rest at is in
@@ -177,7 +177,7 @@ module _ (modules : List Parts) (cell_base : ℕ) (base : IsBase cell_base) (val
         (subst (IsFit (length (program modules cell_base))) p.there
         (All-get_or (IsFit (length (program modules cell_base))) (program modules cell_base) i (element_at [] 0) p.here fit))
 
-    sized : (i : ℕ) (front : List (ℕ × Item)) (site : ℕ × Item) (rest : List (ℕ × Item)) → i ≡ length front
+    pub sized : (i : ℕ) (front : List (ℕ × Item)) (site : ℕ × Item) (rest : List (ℕ × Item)) → i ≡ length front
         → sites modules ≡ front ++ site ∷ rest → slice_index sizes i ≡ length (bytes_of modules cell_base sizes i site)
     sized i front site rest at is =
         let p = place i front site rest at is in
@@ -188,7 +188,7 @@ module _ (modules : List Parts) (cell_base : ℕ) (base : IsBase cell_base) (val
         exact i within ∙ (ap (needed sizes i) own ∙ size-item i site.0 site.1 (fits i front site rest at is))
 
     -- the bytes of it
-    bytes-joined : link.code (program modules cell_base) sizes ≡ joined (bytes_of modules cell_base sizes) 0 (sites modules)
+    pub bytes-joined : link.code (program modules cell_base) sizes ≡ joined (bytes_of modules cell_base sizes) 0 (sites modules)
     bytes-joined =
         flat-joined (element_bytes sizes) (element_at [] 0) (program modules cell_base) [] (program modules cell_base) 0 refl refl
         ∙ (ap (joined (element_bytes sizes) 0) program-sites

@@ -24,7 +24,7 @@ use Rattle.std.proofs.Common.{
   subst,
   ◌∙◌,
 }
-use Rattle.std.specs.Prelude.{◌&&◌, ◌+◌, ◌*◌, ◌^◌, nat_lt, is_some, unwrap_or, slice_get, slice_set}
+use Rattle.std.specs.Prelude.{◌&&◌, ◌^◌, nat_lt, is_some, unwrap_or, slice_get}
 use Rattle.std.proofs.lemmas.Bool.{cases_eq}
 use Rattle.std.proofs.lemmas.Option.{same_Some}
 use Rattle.tn_net.specs.declared.networks.Far.{Far}
@@ -35,17 +35,7 @@ use Rattle.tn_network.specs.declared.picks.Pick.TheVariants.{HostSend, HostTake,
 use Rattle.tn_network.specs.Hosts.{HostState}
 use Rattle.tn_network.specs.Boards.{BoardState, board_of, given, at_node, changed, latch_at}
 use Rattle.tn_network.specs.NodeOps.{NodeOps}
-use Rattle.tn_network.specs.Steps.{
-  is_wired,
-  offered,
-  ready,
-  step,
-  made_by_pick,
-  latched,
-  host_latched,
-  nodes_acknowledged,
-  host_acknowledged,
-}
+use Rattle.tn_network.specs.Steps.{is_wired, offered, ready, step, made_by_pick, latched, host_latched, nodes_acknowledged}
 use Rattle.tn_network.proofs.NodeLists.{slice_get-changed_same, slice_get-changed_other, slice_get-changed_was, length-changed}
 use Rattle.tn_network.proofs.WireLaws.{both, has_byte}
 use Rattle.tn_sym.specs.Inner.NetsBeside.{is_prefix, AreBeside, IsBeside, NodesFollow, IsAt, IsThere, IsOneOver}

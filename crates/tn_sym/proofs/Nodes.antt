@@ -47,7 +47,7 @@ use Rattle.tn_cpu.specs.Effects.{effect}
 use Rattle.tn_cpu.specs.Steps.{step}
 use Rattle.tn_cpu.specs.TurnEnds.{ByOutcome}
 use Rattle.tn_cpu.specs.declared.channels.Way.TheVariants.{Input, Output}
-use Rattle.tn_cpu.proofs.Ends.{effect-stops, effect-tells}
+use Rattle.tn_cpu.proofs.Ends.{effect-tells}
 use Rattle.tn_node.specs.declared.engines.Engine.{Engine}
 use Rattle.tn_node.specs.declared.modes.Stage.{Stage}
 use Rattle.tn_node.specs.declared.modes.Stage.TheVariants.{Reset, Poking, Peeking, Replying, Booting, Refused, Over}

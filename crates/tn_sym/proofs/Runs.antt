@@ -77,8 +77,11 @@ module _ (coded : ℕ → Coded) (codes : List CodeState) (agree : (p : ℕ) →
 -- ---- stops
 
 stopped-in : (p : ℕ) (v : NodeState Guarded) → HasStopped v → (why : Why) × (stop_in p (mode_of v) ≡ Some (p, why))
-stopped-in p v h =
-    (h.why, ap (λ (stage : Stage). stop_in p (mode_at stage v.cpu.life)) h.over ∙ ap (λ (life : Life). stop_in p (mode_at Over life)) h.life)
+stopped-in p v h = (
+  h.why,
+  ap (λ (stage : Stage). stop_in p (mode_at stage v.cpu.life)) h.over ∙ ap (λ (life : Life). stop_in p (mode_at Over life))
+      h.life,
+)
 
 some-at : (nodes : List (NodeState Guarded)) (p : ℕ) → IsAt (λ v. HasStopped v) nodes p → IsSome (stop_at nodes p)
 some-at nodes p h =
@@ -101,7 +104,8 @@ second-some (Some x) other h = refl
 stops-here : (network : NetworkState) (pick : Pick) (s : BoardState (NodeState Guarded)) → IsOneOver (λ v. HasStopped v) network pick s
     → IsSome (stop_by network pick s)
 stops-here network pick s (inl own) =
-    first-some (stop_at s.nodes (actor network pick)) (stop_there s.nodes (other_end network pick)) (some-at s.nodes (actor network pick) own)
+    first-some (stop_at s.nodes (actor network pick)) (stop_there s.nodes (other_end network pick))
+    (some-at s.nodes (actor network pick) own)
 stops-here network pick s (inr other) =
     second-some (stop_at s.nodes (actor network pick)) (stop_there s.nodes (other_end network pick))
     (some-there s.nodes (other_end network pick) other)
@@ -136,7 +140,8 @@ module _ (coded : ℕ → Coded) (ns : List (NodeState (List ℕ))) (vs : List (
   goes-on : (network : NetworkState) (pick : Pick) (s : BoardState (NodeState Guarded)) → s.nodes ≡ vs
       → stop_by network pick s ≡ None
   goes-on network pick s is =
-      ap (λ (nodes : List (NodeState Guarded)). option_or (stop_at nodes (actor network pick)) (stop_there nodes (other_end network pick))) is
+      ap (λ (nodes : List (NodeState Guarded)). option_or (stop_at nodes (actor network pick))
+      (stop_there nodes (other_end network pick))) is
       ∙ (ap (λ (o : Option (ℕ × Why)). option_or o (stop_there vs (other_end network pick))) (none-at (actor network pick))
       ∙ none-there (other_end network pick))
 
@@ -202,7 +207,8 @@ module _ (coded : ℕ → Coded) (codes : List CodeState) (agree : (p : ℕ) →
       let same : step (symbolic_ops s.codes) s.board.network pick s.board.state ≡ after =
       ap (λ (cs : List CodeState). step (symbolic_ops cs) s.board.network pick s.board.state) h.codes_are
       ∙ ap (λ (network : NetworkState). step (symbolic_ops codes) network pick s.board.state) h.wires in
-      let stop : stop_by s.board.network pick (step (symbolic_ops s.codes) s.board.network pick s.board.state) ≡ stop_by n.board.network pick
+      let stop : stop_by s.board.network pick (step (symbolic_ops s.codes) s.board.network pick s.board.state) ≡ stop_by n.board.network
+      pick
       after = ap (λ (board : BoardState (NodeState Guarded)). stop_by s.board.network pick board) same
       ∙ ap (λ (network : NetworkState). stop_by network pick after) h.wires in
       elim (step-same memory_ops (symbolic_ops codes) (SameNodes coded) (λ v. HasStopped v) (symbolic-follow coded codes agree)
@@ -211,7 +217,8 @@ module _ (coded : ℕ → Coded) (codes : List CodeState) (agree : (p : ℕ) →
         | inr beside ↦ inr (record {
           lifted = h.lifted;
           going = stop
-              ∙ goes-on coded (step memory_ops n.board.network pick n.board.state).nodes after.nodes beside.nodes n.board.network pick after refl;
+              ∙ goes-on coded (step memory_ops n.board.network pick n.board.state).nodes after.nodes beside.nodes n.board.network pick
+              after refl;
           codes_are = h.codes_are;
           wires = h.wires;
           boards = subst (λ (board : BoardState (NodeState Guarded)). IsBeside (SameNodes coded) (net_after pick n).board.state board)

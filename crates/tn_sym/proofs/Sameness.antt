@@ -24,7 +24,7 @@ use Rattle.tn_sym.specs.Inner.Wholes.{Coded, SameNodes}
 use Rattle.tn_sym.specs.Inner.NetsBeside.{IsBeside}
 use Rattle.tn_sym.specs.declared.codes.Instruction.{Instruction}
 use Rattle.tn_sym.specs.Symbolic.{CodeState, SymbolicState, instruction_at}
-use Rattle.tn_sym.specs.Same.{code_end, IsElsewhere, SameMemory, StandsWithin, Stands, SameNode, Same}
+use Rattle.tn_sym.specs.Same.{code_end, IsElsewhere, SameMemory, place, StandsWithin, Stands, SameNode, Same}
 use Rattle.tn_sym.proofs.Elements.{IsAmong, made}
 use Rattle.tn_sym.proofs.LinkedCode.{IsHeld, held-inside, take-among}
 
@@ -48,7 +48,8 @@ module _ (code : CodeState) (c : Coded) (is : IsCoded code c) where
     | inl zero_long ↦ no_bytes code.bytes zero_long
     | inr some ↦
         let held = held-inside code c.code is.held some in
-        same_block m c.code code.base code.base (length code.bytes) (record { low = held.low; high = omega (arith, held.high, h.whole) }) held
+        same_block m c.code code.base code.base (length code.bytes)
+        (record { low = held.low; high = omega (arith, held.high, h.whole) }) held
         (λ i below. h.inside (code.base + i) (omega (arith, held.low)) (omega (arith, is.from)) (omega (arith, below, is.to)))
         ∙ is.held.whole
   ]
@@ -67,7 +68,8 @@ module _ (code : CodeState) (c : Coded) (is : IsCoded code c) where
   -- ---- where processors stand
 
   -- the one over bytes is the other but for its memory, its pointer and its operand register
-  pub stands-placed : (life : Life) (item : Option (Fun × ℤ)) (s : State (List ℕ)) (m : List ℕ) (u : State Guarded) → StandsBy life item s m u
+  pub stands-placed : (life : Life) (item : Option (Fun × ℤ)) (s : State (List ℕ)) (m : List ℕ) (u : State Guarded) → StandsBy life item
+      s m u
       → (o : ℕ) × (i : ℕ) × (s ≡ placed o i (over_memory m u))
   stands-placed Running None s m u h = h
   stands-placed Running (Some item) s m u h = (_, _, h.2)
@@ -75,7 +77,7 @@ module _ (code : CodeState) (c : Coded) (is : IsCoded code c) where
   stands-placed (Stopped why) item s m u h = absurd h
 
   within : (item : Option (Fun × ℤ)) (s : State (List ℕ)) (m : List ℕ) (u : State Guarded) → c.items u.iptr ≡ item → StandsAs item s m u
-      → StandsWithin code (option_map (made u.iptr) item) s u
+      → StandsWithin code (option_map (made u.iptr) item) (place s) (place u)
   within None s m u e h = tt
   within (Some item) s m u e h =
       let among = is.among u.iptr item.0 item.1 e in
@@ -90,9 +92,12 @@ module _ (code : CodeState) (c : Coded) (is : IsCoded code c) where
       }
 
   stands-by : (life : Life) (s : State (List ℕ)) (m : List ℕ) (u : State Guarded) → u.oreg ≡ 0 → StandsBy life (c.items u.iptr) s m u
-      → Stands (mode_at Over life) code s u
-  stands-by Running s m u is_clear h =
-      (is_clear, subst (λ (o : Option Instruction). StandsWithin code o s u) (sym (is.items u.iptr)) (within (c.items u.iptr) s m u refl h))
+      → Stands (mode_at Over life) code (place s) (place u)
+  stands-by Running s m u is_clear h = (
+    is_clear,
+    subst (λ (o : Option Instruction). StandsWithin code o (place s) (place u)) (sym (is.items u.iptr))
+        (within (c.items u.iptr) s m u refl h),
+  )
   stands-by Idle s m u is_clear h =
       (is_clear, (ap (λ (t : State (List ℕ)). t.iptr) h, ap (λ (t : State (List ℕ)). t.oreg) h))
   stands-by (Stopped why) s m u is_clear h = absurd h
@@ -117,7 +122,7 @@ module _ (code : CodeState) (c : Coded) (is : IsCoded code c) where
         back = ap (λ (t : State (List ℕ)). t.back) at.2;
         error = ap (λ (t : State (List ℕ)). t.error) at.2;
         halt = ap (λ (t : State (List ℕ)). t.halt) at.2;
-        stands = subst (λ (stage : Stage). Stands (mode_at stage v.cpu.life) code s v.cpu) (sym over)
+        stands = subst (λ (stage : Stage). Stands (mode_at stage v.cpu.life) code (place s) (place v.cpu)) (sym over)
             (stands-by v.cpu.life s m v.cpu h.clear h.stands);
         memory = subst (λ (memory : List ℕ). SameMemory code memory v.cpu.memory.bytes) (sym (ap (λ (t : State (List ℕ)). t.memory) at.2))
             (same-memory m v.cpu.memory h.covers);

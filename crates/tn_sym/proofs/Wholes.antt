@@ -1,5 +1,5 @@
 -- Networks over bytes follow networks over whole items.
-use Rattle.std.proofs.Common.{◌≡◌, ◌≢◌, ◌⊎◌, inl, inr, ℕ, ◌==◌, Bool, true, false, List, length, Option, Some, None, Result, Ok, Err}
+use Rattle.std.proofs.Common.{◌≡◌, ◌≢◌, ◌⊎◌, inl, inr, ℕ, ◌==◌, Bool, true, false, List, Option, Some, None, Result, Ok, Err}
 use Rattle.std.proofs.Common.{refl, sym, ap, subst, ◌∙◌}
 use Rattle.std.specs.Prelude.{if◌then◌else◌}
 use Rattle.tn_isa.specs.OperandRegister.{is_prefix as is_prefix_function, function_of, loaded}
@@ -25,12 +25,13 @@ use Rattle.tn_node.specs.Nodes.{NodeState, mode_at, mode_of}
 use Rattle.tn_node.specs.Links.{wants, is_reply_at, is_reply, offers, marked_sent, reply_acknowledged, engine_acknowledged, acknowledged}
 use Rattle.tn_node.specs.Links.{taken}
 use Rattle.tn_node.specs.Runs.{busy, made_by, ended, node_step}
-use Rattle.tn_network.specs.NodeOps.{NodeOps, is_running, node_ops}
+use Rattle.tn_network.specs.NodeOps.{is_running, node_ops}
 use Rattle.tn_sym.specs.Inner.Items.{is_prefix_byte}
 use Rattle.tn_sym.specs.Inner.Beside.{node_with, SameNode, HasStopped, NodeFollows}
 use Rattle.tn_sym.specs.Inner.Beside.NodeFollows.{node_stops, node_same}
 use Rattle.tn_sym.specs.Inner.NetsBeside.{is_prefix, NodesFollow}
-use Rattle.tn_sym.specs.Inner.Wholes.{Coded, SameNodes, whole_node, TakesWhole, whole_ops}
+use Rattle.tn_sym.specs.Inner.Wholes.{Coded, SameNodes, whole_node, TakesWhole, whole_ops, WholesFollow}
+use Rattle.tn_sym.proofs.NetsBeside.{ready-same, step-same, step-left}
 use Rattle.tn_sym.proofs.Processors.{memory-stands}
 use Rattle.tn_sym.proofs.Nodes.{wants-with, marked_sent-with, offers-same, marked_sent-same, acknowledged-same, taken-same}
 use Rattle.tn_sym.proofs.Nodes.{prefix-read, item-ran}
@@ -174,4 +175,15 @@ module _ (coded : ℕ → Coded) where
           (item-ran c.code c.from c.to c.items c.are c.high slice clock h.cpu v h.same (running p n v h is)
           (sym (byte-of p n v h) ∙ (sym (made-prefix slice clock n) ∙ other)))));
       acknowledge_over = λ l v h. acknowledged-stopped l v h;
+    }
+
+-- ---- the law
+
+pub wholes-follow : WholesFollow
+wholes-follow coded run made network pick s t whole beside =
+    let laws = nodes-follow coded run made whole in
+    record {
+      same = ready-same (node_ops plain_access) (whole_ops run made) (SameNodes coded) (λ v. HasStopped v) laws network s t beside pick;
+      left = step-left (node_ops plain_access) (whole_ops run made) (SameNodes coded) (λ v. HasStopped v) laws network s t beside pick;
+      made = step-same (node_ops plain_access) (whole_ops run made) (SameNodes coded) (λ v. HasStopped v) laws network s t beside pick;
     }

@@ -63,4 +63,5 @@ abbrev pub Execution : Type 0
 Execution =
     (n : NetState) (programs : List ProgramState) (images : List ImageBytes) (s : SymbolicState)
     → IsBoard memory_ops (λ node. IsNode node) n.board.network n.board.state → n.holds.held ≡ false
-    → All (λ program. AreModules program.modules) programs → Belong n.board.network programs images → AreLoaded images n.board.state → Begins programs n.board s → Follows n s
+    → All (λ program. AreModules program.modules) programs → Belong n.board.network programs images → AreLoaded images
+    n.board.state → Begins programs n.board s → Follows n s

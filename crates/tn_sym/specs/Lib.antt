@@ -1,6 +1,6 @@
-pub mod Inner
 pub mod Symbolic
 pub mod Same
 pub mod ProgramStates
 pub mod Programs
 pub mod Follows
+pub mod Inner

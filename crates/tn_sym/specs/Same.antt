@@ -30,33 +30,41 @@ pub record SameMemory (code : CodeState) (memory other : List ℕ) : Type 0 wher
 
 -- ---- where processors stand
 
+-- the instruction pointer and the operand register of a processor
+pub record Place : Type 0 where
+  pub iptr : ℕ
+  pub oreg : ℕ
+
+abbrev pub place : {M : Type 0} → State M → Place
+place s = record { iptr = s.iptr; oreg = s.oreg }
+
 -- Of an instruction at which the symbolic processor stands, the one over bytes has read so many bytes,
 -- and not all: its pointer is as much further, and its operand register is what these bytes make of 0.
-pub record HasRead (code : CodeState) (i : Instruction) (s : State (List ℕ)) (u : State Guarded) : Type 0 where
+pub record HasRead (code : CodeState) (i : Instruction) (own symbolic : Place) : Type 0 where
   pub read : ℕ
   pub more : read < i.size
-  pub iptr : s.iptr ≡ u.iptr + read
-  pub oreg : s.oreg ≡ register_after 0 (take read (drop (i.address - code.base) code.bytes))
+  pub iptr : own.iptr ≡ symbolic.iptr + read
+  pub oreg : own.oreg ≡ register_after 0 (take read (drop (i.address - code.base) code.bytes))
 
 -- where no instruction begins it may stand anywhere
-abbrev pub StandsWithin : CodeState → Option Instruction → State (List ℕ) → State Guarded → Type 0
-StandsWithin code (Some i) s u = HasRead code i s u
-StandsWithin code None s u = ⊤
+abbrev pub StandsWithin : CodeState → Option Instruction → Place → Place → Type 0
+StandsWithin code (Some i) own symbolic = HasRead code i own symbolic
+StandsWithin code None own symbolic = ⊤
 
-abbrev pub StandsAlike : State (List ℕ) → State Guarded → Type 0
-StandsAlike s u = (s.iptr ≡ u.iptr) × (s.oreg ≡ u.oreg)
+abbrev pub StandsAlike : Place → Place → Type 0
+StandsAlike own symbolic = (own.iptr ≡ symbolic.iptr) × (own.oreg ≡ symbolic.oreg)
 
 -- By what the processor does: a running one may stand within an instruction, and no other. While it runs
 -- or is idle the operand register of the symbolic one is 0.
-abbrev pub Stands : Mode → CodeState → State (List ℕ) → State Guarded → Type 0
-Stands Running code s u = (u.oreg ≡ 0) × StandsWithin code (instruction_at code u.iptr) s u
-Stands Idle code s u = (u.oreg ≡ 0) × StandsAlike s u
-Stands Reset code s u = StandsAlike s u
-Stands Poking code s u = StandsAlike s u
-Stands Peeking code s u = StandsAlike s u
-Stands Replying code s u = StandsAlike s u
-Stands Booting code s u = StandsAlike s u
-Stands (Stopped why) code s u = StandsAlike s u
+abbrev pub Stands : Mode → CodeState → Place → Place → Type 0
+Stands Running code own symbolic = (symbolic.oreg ≡ 0) × StandsWithin code (instruction_at code symbolic.iptr) own symbolic
+Stands Idle code own symbolic = (symbolic.oreg ≡ 0) × StandsAlike own symbolic
+Stands Reset code own symbolic = StandsAlike own symbolic
+Stands Poking code own symbolic = StandsAlike own symbolic
+Stands Peeking code own symbolic = StandsAlike own symbolic
+Stands Replying code own symbolic = StandsAlike own symbolic
+Stands Booting code own symbolic = StandsAlike own symbolic
+Stands (Stopped why) code own symbolic = StandsAlike own symbolic
 
 -- ---- nodes
 
@@ -73,7 +81,7 @@ pub record SameNode (code : CodeState) (n : NodeState (List ℕ)) (v : NodeState
   pub back : n.cpu.back ≡ v.cpu.back
   pub error : n.cpu.error ≡ v.cpu.error
   pub halt : n.cpu.halt ≡ v.cpu.halt
-  pub stands : Stands (mode_of v) code n.cpu v.cpu
+  pub stands : Stands (mode_of v) code (place n.cpu) (place v.cpu)
   pub memory : SameMemory code n.cpu.memory v.cpu.memory.bytes
 
 -- ---- networks

@@ -39,13 +39,8 @@ reading f e k s = placed (register_after 0 (take k (coding f e))) (wrap (s.iptr 
 abbrev pub item_step : Option (Fun × ℤ) → ℕ → Bool → ℕ → State Guarded → Ended Guarded
 item_step None busy slice clock u = stopped Stray u
 item_step (Some item) busy slice clock u =
-    effect guarded item.0 (word_of item.1) (record {
-      following = wrap (u.iptr + length (coding item.0 item.1));
-      busy = busy;
-      slice =
-          slice;
-      clock = clock;
-    }) u
+    effect guarded item.0 (word_of item.1)
+    (record { following = wrap (u.iptr + length (coding item.0 item.1)); busy = busy; slice = slice; clock = clock }) u
 
 -- the byte at the instruction pointer is a prefix
 abbrev pub is_prefix_byte : Result ℕ Touch → Bool
@@ -68,5 +63,6 @@ pub record SameRunning (code : List ℕ) (from to : ℕ) (items : ℕ → Option
 -- stops, or both did the same
 pub data ItemFollows (code : List ℕ) (from to : ℕ) (r : Ended (List ℕ)) (g : Ended Guarded) : Type 0 where
   stops : (why : Why) → g.outcome ≡ Stopped why → ItemFollows code from to r g
-  goes : (memory : List ℕ) → Covers code from to memory g.state.memory → g.state.oreg ≡ 0 → r ≡ ended_over memory g → ItemFollows code
-      from to r g
+  goes :
+      (memory : List ℕ) → Covers code from to memory g.state.memory → g.state.oreg ≡ 0 → r ≡ ended_over memory g
+      → ItemFollows code from to r g
