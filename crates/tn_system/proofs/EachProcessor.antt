@@ -17,7 +17,7 @@ use Rattle.tn_stream.specs.declared.images.Image.{Image}
 use Rattle.tn_stream.specs.Images.{ImageBytes, image_of, images_of, IsImage, AreImages}
 use Rattle.tn_image.specs.Images.{IsInRange}
 use Rattle.tn_sym.specs.declared.programs.Program.{Program}
-use Rattle.tn_sym.specs.ProgramStates.{ProgramState, program_of}
+use Rattle.tn_sym.specs.ProgramStates.{program_of}
 use Rattle.tn_system.specs.declared.files.BlockFiles.{BlockFiles}
 use Rattle.tn_system.specs.declared.files.NamedFiles.{NamedFiles}
 use Rattle.tn_system.specs.declared.systems.SystemFault.{SystemFault}

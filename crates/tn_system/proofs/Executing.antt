@@ -1,5 +1,5 @@
 -- A loaded system runs as its programs do.
-use Rattle.std.proofs.Common.{◌≡◌, ℕ, zero, suc, ◌%◌, ◌<◌, List, [], ◌∷◌, map, length, get_or, Some, None, refl, sym, ap, ◌∙◌, subst, arith}
+use Rattle.std.proofs.Common.{◌≡◌, ℕ, zero, suc, ◌%◌, List, [], ◌∷◌, map, length, Some, None, refl, sym, ap, ◌∙◌, subst}
 use Rattle.std.specs.Prelude.{slice_get, slice_index, All}
 use Rattle.std.specs.List.{AllZip}
 use Rattle.std.proofs.lemmas.List.{length-map}
@@ -14,18 +14,16 @@ use Rattle.tn_link.specs.Programs.{program, pieces}
 use Rattle.tn_link.specs.Linking.{IsBase, AreLinkable}
 use Rattle.tn_stream.specs.Images.{ImageBytes}
 use Rattle.tn_stream.specs.PlainImages.{IsPlain}
-use Rattle.tn_node.specs.Nodes.{NodeState, IsNode}
+use Rattle.tn_node.specs.Nodes.{NodeState}
 use Rattle.tn_network.specs.Boards.{WiredBoard}
 use Rattle.tn_network.specs.GuardedBoards.{guarded_wired}
-use Rattle.tn_network.specs.Wires.{IsBoard}
-use Rattle.tn_network.specs.Nets.{NetState, memory_ops}
 use Rattle.tn_sym.specs.ProgramStates.{LinkedState, ProgramState, IsLinkedTo}
 use Rattle.tn_sym.specs.Symbolic.{CodeState, SymbolicState}
-use Rattle.tn_sym.specs.Programs.{instructions, IsCodeOf, AreModules, Belongs, Belong, AreLoaded, region_of, Begins}
+use Rattle.tn_sym.specs.Programs.{instructions, IsCodeOf, AreModules, Belongs, Belong, region_of, Begins}
 use Rattle.tn_sym.proofs.Beginning.{execution}
 use Rattle.tn_system.specs.Sources.{Sources, parts_of}
-use Rattle.tn_system.specs.Systems.{SystemState, IsProcessorProgram, IsProgramOf, IsPlainFor, BelongTogether, IsSystem}
-use Rattle.tn_system.specs.Executions.{FollowsPrograms, Executes}
+use Rattle.tn_system.specs.Systems.{SystemState, IsProcessorProgram, IsPlainFor, BelongTogether, IsSystem}
+use Rattle.tn_system.specs.Executions.{Executes}
 
 -- ---- where it begins
 

@@ -1,5 +1,5 @@
 -- What was read from texts of files may become a system.
-use Rattle.std.proofs.Common.{◌≡◌, ℕ, ◌+◌, ◌<◌, ◌^◌, List, length, ap, arith}
+use Rattle.std.proofs.Common.{ℕ, ◌+◌, ◌<◌, ◌^◌, List, length, ap, arith}
 use Rattle.std.specs.List.{flat_map}
 use Rattle.tn_module.specs.Modules.{Parts}
 use Rattle.tn_modtext.specs.Lines.{lines_of}

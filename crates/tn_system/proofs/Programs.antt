@@ -11,7 +11,7 @@ use Rattle.tn_link.specs.declared.linking.Linked.{Linked}
 use Rattle.tn_link.specs.Places.{cells_end}
 use Rattle.tn_link.specs.Programs.{program, pieces, code}
 use Rattle.tn_link.specs.Cells.{frame, cells}
-use Rattle.tn_link.specs.Linking.{IsBase, AreLinkable, IsLinked, placed, cell_places}
+use Rattle.tn_link.specs.Linking.{IsBase, AreLinkable, IsLinked, placed}
 use Rattle.tn_config.specs.Configurations.{BlockState}
 use Rattle.tn_config.specs.Places.{is_address}
 use Rattle.tn_stream.specs.Images.{SegmentBytes, ImageBytes}

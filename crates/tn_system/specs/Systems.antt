@@ -1,5 +1,5 @@
 -- Systems: the images and programs of all processors, their network, and the tree by which it loads.
-use Rattle.std.specs.Prelude.{◌≡◌, ℕ, ◌%◌, ◌⊎◌, List, [], map, length, slice_get, Some}
+use Rattle.std.specs.Prelude.{◌≡◌, ◌%◌, ◌⊎◌, List, [], map, length, slice_get, Some}
 use Rattle.std.specs.List.{AllZip}
 use Rattle.tn_module.specs.Modules.{Parts}
 use Rattle.tn_symbols.specs.Faults.{AreSound}
