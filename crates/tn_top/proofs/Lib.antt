@@ -7,6 +7,7 @@ pub mod ReadLaws
 pub mod ReadLoops
 pub mod SystemTexts
 pub mod TreeTexts
+pub mod ListTexts
 pub mod OneStreams
 pub mod FlatCodes
 pub mod EndLaws

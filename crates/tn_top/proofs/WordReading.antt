@@ -21,7 +21,7 @@ use Rattle.tn_words.specs.PlainWords.{is_plain_word}
 use Rattle.tn_top.specs.declared.refusals.Refusal.{Refusal}
 use Rattle.tn_top.specs.declared.words.Command.{Command}
 use Rattle.tn_top.specs.declared.refusals.Refusal.TheVariants.{Fault, Limit, Unread, Unwritten, Unprinted, NotEnabled, NoMemory}
-use Rattle.tn_top.specs.CommandWords.{Asked, IsInRange, flat, one, asm, lib, build, tree, replay, grid, is_file_word, link_named}
+use Rattle.tn_top.specs.CommandWords.{Asked, IsInRange, flat, one, asm, lib, build, list, tree, replay, grid, is_file_word, link_named}
 use Rattle.tn_top.specs.CommandWords.{size_named, one_file, two_files, one_asked, lib_asked, grid_asked, asked}
 use Rattle.tn_io.specs.Outs.{Printed}
 use Rattle.tn_io.specs.Stores.{Stored}
@@ -241,11 +241,11 @@ fails p xs i x here is fail = at (list_all p xs) refl
 
 pub unasked : {X : Type 0} (f : X → List ℕ) (words : List X) (first : X) (command : List ℕ) → 1 ≤ length words
     → first ≡ get_or words 0 first → command ≡ f first → (command ≡ codes "flat" → ⊥) → (command ≡ codes "one" → ⊥)
-    → (command ≡ codes "asm" → ⊥) → (command ≡ codes "lib" → ⊥) → (command ≡ codes "build" → ⊥) → (command ≡ codes "tree" → ⊥)
-    → (command ≡ codes "replay" → ⊥) → (command ≡ codes "grid" → ⊥) → asked (map f words) ≡ None
+    → (command ≡ codes "asm" → ⊥) → (command ≡ codes "lib" → ⊥) → (command ≡ codes "build" → ⊥) → (command ≡ codes "list" → ⊥)
+    → (command ≡ codes "tree" → ⊥) → (command ≡ codes "replay" → ⊥) → (command ≡ codes "grid" → ⊥) → asked (map f words) ≡ None
 unfolding asked
-unasked f [] first command some is same no_flat no_one no_asm no_lib no_build no_tree no_replay no_grid = absurd (omega arith)
-unasked f (word ∷ words) first command some is same no_flat no_one no_asm no_lib no_build no_tree no_replay no_grid =
+unasked f [] first command some is same no_flat no_one no_asm no_lib no_build no_list no_tree no_replay no_grid = absurd (omega arith)
+unasked f (word ∷ words) first command some is same no_flat no_one no_asm no_lib no_build no_list no_tree no_replay no_grid =
     let named : command ≡ f word = same ∙ ap f is in
     rw (
       ← named,
@@ -254,6 +254,7 @@ unasked f (word ∷ words) first command some is same no_flat no_one no_asm no_l
       bytes_eq-other command (codes "asm") no_asm,
       bytes_eq-other command (codes "lib") no_lib,
       bytes_eq-other command (codes "build") no_build,
+      bytes_eq-other command (codes "list") no_list,
       bytes_eq-other command (codes "tree") no_tree,
       bytes_eq-other command (codes "replay") no_replay,
       bytes_eq-other command (codes "grid") no_grid,
@@ -272,6 +273,10 @@ asm-ranges (Some f) = tt
 build-ranges : (files : Option (List ℕ × List ℕ)) → IfSome (option_map (λ f. build f.0 f.1) files) IsInRange
 build-ranges None = tt
 build-ranges (Some f) = tt
+
+list-ranges : (file : Option (List ℕ)) → IfSome (option_map list file) IsInRange
+list-ranges None = tt
+list-ranges (Some f) = tt
 
 tree-ranges : (file : Option (List ℕ)) → IfSome (option_map tree file) IsInRange
 tree-ranges None = tt
@@ -342,9 +347,10 @@ asked-ranges (command ∷ words) =
     (either (bytes_eq command (codes "asm")) (option_map (λ f. asm f.0 f.1) (two_files words)) _ (asm-ranges (two_files words))
     (either (bytes_eq command (codes "lib")) (lib_asked words) _ (lib-ranges words)
     (either (bytes_eq command (codes "build")) (option_map (λ f. build f.0 f.1) (two_files words)) _ (build-ranges (two_files words))
+    (either (bytes_eq command (codes "list")) (option_map list (one_file words)) _ (list-ranges (one_file words))
     (either (bytes_eq command (codes "tree")) (option_map tree (one_file words)) _ (tree-ranges (one_file words))
     (either (bytes_eq command (codes "replay")) (option_map (λ f. replay f.0 f.1) (two_files words)) _ (replay-ranges (two_files words))
-    (either (bytes_eq command (codes "grid")) (grid_asked words) None (grid-ranges words) tt)))))))
+    (either (bytes_eq command (codes "grid")) (grid_asked words) None (grid-ranges words) tt))))))))
 
 -- ---- what was read is what is asked for
 

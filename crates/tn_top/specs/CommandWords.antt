@@ -14,6 +14,7 @@ pub data Asked : Type 0 where
   asm : (source target : List ℕ) → Asked
   lib : (target : List ℕ) (sources : List (List ℕ)) → Asked
   build : (config target : List ℕ) → Asked
+  list : (config : List ℕ) → Asked
   tree : (config : List ℕ) → Asked
   replay : (config schedule : List ℕ) → Asked
   grid : (size : ℕ) → Asked
@@ -67,9 +68,10 @@ asked_of command words =
     else (if bytes_eq command (codes "asm") then option_map (λ f. asm f.0 f.1) (two_files words)
     else (if bytes_eq command (codes "lib") then lib_asked words
     else (if bytes_eq command (codes "build") then option_map (λ f. build f.0 f.1) (two_files words)
+    else (if bytes_eq command (codes "list") then option_map list (one_file words)
     else (if bytes_eq command (codes "tree") then option_map tree (one_file words)
     else (if bytes_eq command (codes "replay") then option_map (λ f. replay f.0 f.1) (two_files words)
-    else (if bytes_eq command (codes "grid") then grid_asked words else None)))))))
+    else (if bytes_eq command (codes "grid") then grid_asked words else None))))))))
 
 -- what the words after the program's name ask for, if they spell a command
 unfoldable pub asked : List (List ℕ) → Option Asked

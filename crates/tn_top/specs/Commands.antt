@@ -11,11 +11,12 @@ use Rattle.tn_module.specs.Modules.{Parts}
 use Rattle.tn_modtext.specs.Lines.{spelling}
 use Rattle.tn_asm.specs.Assembling.{assembled}
 use Rattle.tn_modtext.specs.Libraries.{library_spelling}
-use Rattle.tn_top.specs.CommandWords.{Asked, flat, one, asm, lib, build, tree, replay, grid, asked}
+use Rattle.tn_top.specs.CommandWords.{Asked, flat, one, asm, lib, build, list, tree, replay, grid, asked}
 use Rattle.tn_top.specs.FlatCode.{flat_code}
 use Rattle.tn_top.specs.OneProcessor.{boot_stream}
 use Rattle.tn_top.specs.ModulePlans.{module_plan}
 use Rattle.tn_top.specs.SystemPlans.{system_plan, stream_written, tree_printed}
+use Rattle.tn_top.specs.ListPlans.{listing_printed}
 use Rattle.tn_top.specs.GridPlans.{grid_plan}
 use Rattle.tn_top.specs.ReplayPlans.{replay_plan}
 use Rattle.tn_top.specs.Plans.{Answer, usage, fault, limit, done, Plan, gives, stops, reads, then_plan, at_once, each, Reaches}
@@ -75,6 +76,7 @@ plan_of (one source target link) = then_plan (code_plan source) (written_from ta
 plan_of (asm source target) = then_plan (assembler_plan source) (written_from target (λ text. text))
 plan_of (lib target sources) = then_plan (library_plan sources) (written_from target (λ text. text))
 plan_of (build config target) = then_plan (system_plan config) (stream_written target)
+plan_of (list config) = then_plan (system_plan config) listing_printed
 plan_of (tree config) = then_plan (system_plan config) tree_printed
 plan_of (replay config schedule) = replay_plan config schedule
 plan_of (grid size) = grid_plan size

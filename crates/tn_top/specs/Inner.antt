@@ -3,5 +3,6 @@ pub mod Stages
 pub mod Ends
 pub mod Systems
 pub mod OneTrees
+pub mod Listings
 pub mod Replays
 pub mod WordReading

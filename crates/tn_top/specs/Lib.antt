@@ -5,6 +5,7 @@ pub mod OneProcessor
 pub mod Plans
 pub mod ModulePlans
 pub mod SystemPlans
+pub mod ListPlans
 pub mod OwnFiles
 pub mod SystemNets
 pub mod GridPlans

@@ -10,6 +10,7 @@ ghost use Rattle.tn_top.specs.OneProcessor.{boot_stream};
 ghost use Rattle.tn_io.specs.FileLists.{Files};
 ghost use Rattle.tn_top.specs.Plans.{Answer, fault, limit, refused, then_plan};
 ghost use Rattle.tn_top.specs.SystemPlans.{system_plan, stream_written, tree_printed};
+ghost use Rattle.tn_top.specs.ListPlans.{listing_printed};
 ghost use Rattle.tn_top.specs.GridPlans.{grid_plan};
 ghost use Rattle.tn_top.specs.ReplayPlans.{replay_plan};
 ghost use Rattle.tn_top.specs.Commands.{code_plan, assembler_plan, library_plan, written_from, plan_of, plan_asked, IsAnswer};
@@ -21,6 +22,7 @@ ghost use Rattle.tn_top.specs.Inner.Ends.{Ends};
 use crate::endings::write_file;
 use crate::err_lines::{tell_end, tell_usage};
 use crate::grids::{grid_file, grid_store, print_grid};
+use crate::list_prints::print_list;
 use crate::one_processor::write_code_stream;
 use crate::reading::{read_code, read_library_text, read_module_of};
 use crate::refusals::{Refusal, status_of};
@@ -138,6 +140,7 @@ fn perform<S: Store, O: Out>(
         Command::Asm { source, target } => asm(alloc, &source, &target, store),
         Command::Lib { target, sources } => lib(alloc, &target, &sources, store),
         Command::Build { config, target } => build(alloc, &config, &target, store),
+        Command::List { config } => list(alloc, &config, store, out),
         Command::Tree { config } => tree(alloc, &config, store, out),
         Command::Replay { config, schedule } => replay(alloc, &config, &schedule, store, out),
         Command::Grid { size } => grid(alloc, size, out),
@@ -215,6 +218,21 @@ fn build<S: Store>(
 {
     let read = read_system(alloc, config, store)?;
     write_stream(target, &read.system.tree, &read.system.images, store)
+}
+
+/// Builds the system of a configuration, and lists its processors.
+fn list<S: Store, O: Out>(
+    alloc: Global,
+    config: &FileName,
+    store: &mut S,
+    out: &mut O,
+) -> Result<(), Refusal>
+    ensures ends { Ends (then_plan (system_plan config.now) listing_printed)
+        (S.stored store.old) (S.stored store.new) (O.printed out.old) (O.printed out.new) result }
+    ensures goes_on { O.goes_on out.old out.new }
+{
+    let read = read_system(alloc, config, store)?;
+    print_list(alloc, &read, out)
 }
 
 /// Builds the system of a configuration, and prints its load tree.

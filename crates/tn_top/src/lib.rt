@@ -10,6 +10,7 @@ mod endings;
 mod err_lines;
 mod flat_code;
 mod grids;
+mod list_prints;
 mod one_processor;
 mod reading;
 mod refusals;

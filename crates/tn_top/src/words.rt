@@ -3,7 +3,7 @@ ghost use Rattle.std.specs.Prelude.{IsSomeAnd, is_some, if◌then◌else◌};
 ghost use Rattle.std.specs.List.{list_all};
 ghost use Rattle.std.specs.Option.{option_map};
 ghost use Rattle.tn_top.specs.declared.refusals.Refusal.TheVariants.{NoMemory};
-ghost use Rattle.tn_top.specs.CommandWords.{flat, one, asm, lib, build, tree, replay, grid, is_file_word, link_named, size_named};
+ghost use Rattle.tn_top.specs.CommandWords.{flat, one, asm, lib, build, list, tree, replay, grid, is_file_word, link_named, size_named};
 ghost use Rattle.tn_top.specs.CommandWords.{one_file, two_files, one_asked, lib_asked, grid_asked, asked};
 ghost use Rattle.tn_top.specs.Inner.WordReading.{behind, IsReadAs, ReadsAs, asked_by};
 
@@ -42,6 +42,10 @@ pub enum Command {
         config: FileName,
         target: FileName,
     },
+    /// Build the system of a configuration, and list its processors.
+    List {
+        config: FileName,
+    },
     /// Build the system of a configuration, and print its load tree.
     Tree {
         config: FileName,
@@ -73,6 +77,7 @@ pub fn command_of(alloc: Global, words: &[String]) -> Option<Result<Command, Ref
         "asm" => asm_words(alloc, words),
         "lib" => lib_words(alloc, words),
         "build" => build_words(alloc, words),
+        "list" => list_words(alloc, words),
         "tree" => tree_words(alloc, words),
         "replay" => replay_words(alloc, words),
         "grid" => grid_words(alloc, words),
@@ -126,6 +131,16 @@ fn build_words(alloc: Global, words: &[String]) -> Option<Result<Command, Refusa
 {
     match two_file_words(alloc, words)? {
         Ok((config, target)) => Some(Ok(Command::Build { config, target })),
+        Err(refusal) => Some(Err(refusal)),
+    }
+}
+
+/// The words of `list CONFIG`.
+fn list_words(alloc: Global, words: &[String]) -> Option<Result<Command, Refusal>>
+    ensures { IsReadAs asked_by (option_map list (one_file (behind (map string_bytes words.now)))) result }
+{
+    match one_file_words(alloc, words)? {
+        Ok(config) => Some(Ok(Command::List { config })),
         Err(refusal) => Some(Err(refusal)),
     }
 }

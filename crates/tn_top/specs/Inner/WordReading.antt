@@ -3,8 +3,8 @@ use Rattle.std.specs.Prelude.{◌≡◌, ⊤, ℕ, List, [], ◌∷◌, Option, 
 use Rattle.tn_top.specs.declared.refusals.Refusal.{Refusal}
 use Rattle.tn_top.specs.declared.refusals.Refusal.TheVariants.{NoMemory}
 use Rattle.tn_top.specs.declared.words.Command.{Command}
-use Rattle.tn_top.specs.declared.words.Command.TheVariants.{Flat, One, Asm, Lib, Build, Tree, Replay, Grid}
-use Rattle.tn_top.specs.CommandWords.{Asked, flat, one, asm, lib, build, tree, replay, grid}
+use Rattle.tn_top.specs.declared.words.Command.TheVariants as command
+use Rattle.tn_top.specs.CommandWords.{Asked, flat, one, asm, lib, build, list, tree, replay, grid}
 
 -- the words behind the first
 abbrev pub behind : List (List ℕ) → List (List ℕ)
@@ -25,17 +25,18 @@ pub record ReadsAs {A B : Type 0} (seen : B → A) (asked : Option A) (result : 
 
 -- what a command is asked for as
 abbrev pub asked_by : Command → Asked
-asked_by (Flat source target) = flat source target
-asked_by (One source target link) = one source target link
-asked_by (Asm source target) = asm source target
-asked_by (Lib target sources) = lib target sources.items
-asked_by (Build config target) = build config target
-asked_by (Tree config) = tree config
-asked_by (Replay config schedule) = replay config schedule
-asked_by (Grid size) = grid size
+asked_by (command.Flat source target) = flat source target
+asked_by (command.One source target link) = one source target link
+asked_by (command.Asm source target) = asm source target
+asked_by (command.Lib target sources) = lib target sources.items
+asked_by (command.Build config target) = build config target
+asked_by (command.List config) = list config
+asked_by (command.Tree config) = tree config
+asked_by (command.Replay config schedule) = replay config schedule
+asked_by (command.Grid size) = grid size
 
 -- the command is what is asked for, unless there is no memory
 abbrev pub IsFor : Asked → Result Command Refusal → Type 0
-IsFor what (Ok command) = what ≡ asked_by command
+IsFor what (Ok c) = what ≡ asked_by c
 IsFor what (Err NoMemory) = ⊤
 IsFor what (Err _) = ⊥

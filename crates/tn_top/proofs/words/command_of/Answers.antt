@@ -9,5 +9,5 @@ returns-in_default-as_str c =
     let other = c.in_default-as_str in
     subst (λ (o : Option Asked). IsReadAs asked_by o None)
     (sym (unasked string_bytes c.args.words.now c.command-item.result c.as_str.result.now c.in-len1-up.len_at_least c.command-item.is
-    c.as_str.ensures.value other.not-flat other.not-one other.not-asm other.not-lib other.not-build other.not-tree
+    c.as_str.ensures.value other.not-flat other.not-one other.not-asm other.not-lib other.not-build other.not-list other.not-tree
     other.not-replay other.not-grid)) tt
