@@ -8,8 +8,8 @@ use std::alloc::Global;
 use std::io;
 use tn_tables::{Case, Report, Stop, Tables, run_tables};
 
-/// The tables, in the order of what is printed: of all commands, and of those that run networks.
-const TABLES: [&str; 2] = ["commands", "replays"];
+/// The tables, in the order of what is printed: of all commands, of those that run networks, and of listings.
+const TABLES: [&str; 3] = ["commands", "replays", "listings"];
 
 /// The tables of commands, which have one form.
 struct CommandTables;
