@@ -39,11 +39,10 @@ use Rattle.tn_cpu.specs.declared.outcomes.Life.{Life}
 use Rattle.tn_cpu.specs.declared.outcomes.Life.TheVariants.{Running, Idle, Stopped}
 use Rattle.tn_node.specs.declared.modes.Stage.{Stage}
 use Rattle.tn_node.specs.declared.modes.Stage.TheVariants.{Over}
-use Rattle.tn_node.specs.Nodes.{NodeState, mode_at, mode_of, node_over, IsNode}
+use Rattle.tn_node.specs.Nodes.{NodeState, mode_at, mode_of, node_over}
 use Rattle.tn_network.specs.Boards.{WiredBoard}
 use Rattle.tn_network.specs.NodeOps.{is_running}
-use Rattle.tn_network.specs.Wires.{IsBoard}
-use Rattle.tn_network.specs.Nets.{NetState, memory_ops}
+use Rattle.tn_network.specs.Nets.{NetState}
 use Rattle.tn_network.specs.GuardedBoards.{guarded_node, guarded_nodes, guarded_wired}
 use Rattle.tn_network.specs.Loads.{PlacedBytes, Target, StandsIn, IsLoadedNode, AreLoadedNodes}
 use Rattle.tn_network.proofs.WireLaws.{both}
@@ -63,7 +62,7 @@ use Rattle.tn_sym.specs.Symbolic.{CodeState, SymbolicState, code_at, instruction
 use Rattle.tn_sym.specs.Same.{code_end}
 use Rattle.tn_sym.specs.Programs.{IsCodeOf, AreModules, code_segment, Belongs, Belong, placed, IsTargetOf, AreLoaded}
 use Rattle.tn_sym.specs.Programs.{region_of, Begins}
-use Rattle.tn_sym.specs.Follows.{Follows, Execution}
+use Rattle.tn_sym.specs.Follows.{Follows, HaveLinks, Execution}
 use Rattle.tn_sym.proofs.Lists.{there, all-at}
 use Rattle.tn_sym.proofs.Elements.{IsAmong, made}
 use Rattle.tn_sym.proofs.LinkedCode.{IsHeld, items, instructions-items, items-among, item-held}
@@ -217,14 +216,18 @@ guarded-at (q ∷ regions) (m ∷ nodes) zero r n v region here is =
 guarded-at (q ∷ regions) (m ∷ nodes) (suc p) r n v region here is = guarded-at regions nodes p r n v region here is
 
 module _ (n : NetState) (programs : List ProgramState) (images : List ImageBytes) (s : SymbolicState)
-    (board : IsBoard memory_ops (λ node. IsNode node) n.board.network n.board.state)
+    (links : HaveLinks n.board.state)
     (valid : All (λ program. AreModules program.modules) programs) (belong : Belong n.board.network programs images)
     (loaded : AreLoaded images n.board.state) (begun : Begins programs n.board s) where
   abbrev nodes : List (NodeState (List ℕ))
   nodes = n.board.state.nodes
 
+  -- as many processors as images
+  many : length nodes ≡ length n.board.network.sizes
+  many = (loaded-at (λ m. m) nodes loaded.targets loaded.loaded.nodes).0 ∙ loaded.count ∙ belong.all_images
+
   as_many : length programs ≡ length nodes
-  as_many = belong.all_programs ∙ sym board.nodes
+  as_many = belong.all_programs ∙ sym many
 
   -- all that belongs to a processor
   record IsProcessor (p : ℕ) : Type 0 where
@@ -242,9 +245,9 @@ module _ (n : NetState) (programs : List ProgramState) (images : List ImageBytes
   processor : (p : ℕ) → p < length nodes → IsProcessor p
   processor p here =
       let one = there programs p (omega (arith, as_many)) in
-      let two = there images p (omega (arith, board.nodes, belong.all_images)) in
+      let two = there images p (omega (arith, many, belong.all_images)) in
       let three = there s.codes p (omega (arith, as_many, begun.count)) in
-      let four = there loaded.targets p (omega (arith, board.nodes, belong.all_images, loaded.count)) in
+      let four = there loaded.targets p (omega (arith, many, belong.all_images, loaded.count)) in
       let five = there nodes p here in
       record {
         program = one.0;
@@ -346,7 +349,7 @@ module _ (n : NetState) (programs : List ProgramState) (images : List ImageBytes
       { bytes = k.node.cpu.memory; from = a; to = (region_of k.program).1 }) k.node)) from
       (subst (λ (b : ℕ). SameNodes coded p k.node (node_over (record { bytes = k.node.cpu.memory; from = (coded p).from; to = b })
       k.node)) to
-      (begins coded p k.node known.own over runs clear (board.sound p k.node k.node_at) l.quiet))
+      (begins coded p k.node known.own over runs clear (links p k.node k.node_at) l.quiet))
     where
       running : (life : Life) → is_running (mode_at Over life) ≡ true → life ≡ Running
       running Running e = refl
@@ -385,5 +388,5 @@ module _ (n : NetState) (programs : List ProgramState) (images : List ImageBytes
 
 -- the theorem
 pub execution : Execution
-execution n programs images s board lifted valid belong loaded begun = follows-loaded n programs images s board valid belong loaded
+execution n programs images s links lifted valid belong loaded begun = follows-loaded n programs images s links valid belong loaded
     begun lifted

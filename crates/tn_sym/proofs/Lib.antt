@@ -12,6 +12,8 @@ pub mod LinkedCode
 pub mod Sameness
 pub mod Runs
 pub mod Beginning
+pub mod SymbolicRuns
+pub mod FourLinks
 pub mod ReadCode
 pub mod Begun
 pub mod Stepping

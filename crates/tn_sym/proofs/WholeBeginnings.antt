@@ -40,7 +40,8 @@ use Rattle.tn_cpu.specs.Codes.{StandsAt}
 use Rattle.tn_node.specs.declared.engines.Engine.{Engine}
 use Rattle.tn_node.specs.declared.modes.Stage.TheVariants.{Over}
 use Rattle.tn_node.specs.Engines.{engine_of}
-use Rattle.tn_node.specs.Nodes.{NodeState, node_over, all_closed, AreClosed, IsQuiet, IsNode}
+use Rattle.tn_node.specs.Nodes.{NodeState, node_over, all_closed, AreClosed, IsQuiet}
+use Rattle.tn_sym.specs.Follows.{HasLinks}
 use Rattle.tn_sym.specs.Inner.Covers.{Covers}
 use Rattle.tn_sym.specs.Inner.Items.{IsItem}
 use Rattle.tn_sym.specs.Inner.Beside.{StandsBy}
@@ -79,9 +80,9 @@ quiet engines four h l e is = closed l e (ap (λ (es : List (Option Engine)). en
 -- a running node over bytes, with its engines closed and the operand register clear, stands beside its
 -- guarded copy
 pub begins : (coded : ℕ → Coded) (p : ℕ) (n : NodeState (List ℕ)) → (coded p).code ≡ n.cpu.memory → n.stage ≡ Over
-    → n.cpu.life ≡ Running → n.cpu.oreg ≡ 0 → IsNode n → IsQuiet n
+    → n.cpu.life ≡ Running → n.cpu.oreg ≡ 0 → HasLinks n → IsQuiet n
     → SameNodes coded p n (node_over (record { bytes = n.cpu.memory; from = (coded p).from; to = (coded p).to }) n)
-begins coded p n own over runs is_clear node none =
+begins coded p n own over runs is_clear four none =
     let c = coded p in
     let g : Guarded = record { bytes = n.cpu.memory; from = c.from; to = c.to } in
     let u : State Guarded = over_memory g n.cpu in
@@ -98,9 +99,9 @@ begins coded p n own over runs is_clear node none =
               (starts c.code c.from c.to c.items c.are c.high n.cpu.memory u is_clear);
         };
         over = over;
-        inputs = record { block = λ l e is. absurd (quiet n.inputs node.inputs.four none.0 l e is) };
-        outputs = record { block = λ l e is. absurd (quiet n.outputs node.outputs.four none.1 l e is) };
-        some = record { some = λ l e is. absurd (quiet n.inputs node.inputs.four none.0 l e is) };
+        inputs = record { block = λ l e is. absurd (quiet n.inputs four.0 none.0 l e is) };
+        outputs = record { block = λ l e is. absurd (quiet n.outputs four.1 none.1 l e is) };
+        some = record { some = λ l e is. absurd (quiet n.inputs four.0 none.0 l e is) };
       };
     }
 

@@ -1,12 +1,12 @@
 -- Follows: the loaded network runs as its symbolic programs do.
-use Rattle.std.specs.Prelude.{◌≡◌, ◌⊎◌, Bool, true, false, List, [], ◌∷◌, IsSome, All, if◌then◌else◌}
+use Rattle.std.specs.Prelude.{◌≡◌, ◌⊎◌, ℕ, Bool, true, false, List, [], ◌∷◌, length, slice_get, Some, IsSome, All, if◌then◌else◌}
 use Rattle.tn_stream.specs.Images.{ImageBytes}
 use Rattle.tn_node.specs.declared.modes.Made.{Made}
 use Rattle.tn_node.specs.declared.modes.Made.TheVariants as made
-use Rattle.tn_node.specs.Nodes.{IsNode}
+use Rattle.tn_node.specs.Nodes.{NodeState}
 use Rattle.tn_network.specs.declared.picks.Pick.{Pick}
 use Rattle.tn_network.specs.Steps.{made_by_pick}
-use Rattle.tn_network.specs.Wires.{IsBoard}
+use Rattle.tn_network.specs.Boards.{BoardState}
 use Rattle.tn_network.specs.Nets.{NetState, memory_ops, net_enabled, net_after}
 use Rattle.tn_sym.specs.ProgramStates.{ProgramState}
 use Rattle.tn_sym.specs.Symbolic.{SymbolicState, symbolic_enabled, symbolic_after, AreSymbolic, symbolic_behind}
@@ -57,11 +57,18 @@ pub record AreBeside (n : NetState) (s : SymbolicState) (picks : List Pick) : Ty
 abbrev pub Follows : NetState → SymbolicState → Type 0
 Follows n s = (picks : List Pick) → Runs n picks → Stops s (kept n picks) ⊎ AreBeside n s picks
 
+-- a processor has engines for four links, in and out
+abbrev pub HasLinks : NodeState (List ℕ) → Type 0
+HasLinks node = (length node.inputs ≡ 4) × (length node.outputs ≡ 4)
+
+abbrev pub HaveLinks : BoardState (NodeState (List ℕ)) → Type 0
+HaveLinks s = (p : ℕ) (node : NodeState (List ℕ)) → slice_get s.nodes p ≡ Some node → HasLinks node
+
 -- The theorem: from every state in which a network is loaded with the images of its programs and its hold is
 -- lifted, its runs are those of the symbolic network that begins there.
 abbrev pub Execution : Type 0
 Execution =
     (n : NetState) (programs : List ProgramState) (images : List ImageBytes) (s : SymbolicState)
-    → IsBoard memory_ops (λ node. IsNode node) n.board.network n.board.state → n.holds.held ≡ false
+    → HaveLinks n.board.state → n.holds.held ≡ false
     → All (λ program. AreModules program.modules) programs → Belong n.board.network programs images → AreLoaded images
     n.board.state → Begins programs n.board s → Follows n s

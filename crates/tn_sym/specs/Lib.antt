@@ -3,4 +3,5 @@ pub mod Same
 pub mod ProgramStates
 pub mod Programs
 pub mod Follows
+pub mod SymbolicRuns
 pub mod Inner
