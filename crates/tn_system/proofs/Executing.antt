@@ -1,5 +1,5 @@
 -- A loaded system runs as its programs do.
-use Rattle.std.proofs.Common.{◌≡◌, ℕ, zero, suc, ◌%◌, List, [], ◌∷◌, map, length, Some, None, refl, sym, ap, ◌∙◌, subst}
+use Rattle.std.proofs.Common.{◌≡◌, ℕ, zero, suc, ◌%◌, List, [], ◌∷◌, map, length, Some, refl, sym, ap, ◌∙◌, subst}
 use Rattle.std.specs.Prelude.{slice_get, slice_index, All}
 use Rattle.std.specs.List.{AllZip}
 use Rattle.std.proofs.lemmas.List.{length-map}
@@ -9,63 +9,17 @@ use Rattle.tn_module.specs.Modules.{Parts}
 use Rattle.tn_config.specs.Configurations.{BlockState}
 use Rattle.tn_config.specs.Networks.{named_size}
 use Rattle.tn_net.specs.Networks.{NetworkState}
-use Rattle.tn_layout.proofs.LeastSizes.{one_is_least}
-use Rattle.tn_link.specs.Programs.{program, pieces}
 use Rattle.tn_link.specs.Linking.{IsBase, AreLinkable}
 use Rattle.tn_stream.specs.Images.{ImageBytes}
 use Rattle.tn_stream.specs.PlainImages.{IsPlain}
-use Rattle.tn_node.specs.Nodes.{NodeState}
-use Rattle.tn_network.specs.Boards.{WiredBoard}
-use Rattle.tn_network.specs.GuardedBoards.{guarded_wired}
 use Rattle.tn_sym.specs.ProgramStates.{LinkedState, ProgramState, IsLinkedTo}
-use Rattle.tn_sym.specs.Symbolic.{CodeState, SymbolicState}
-use Rattle.tn_sym.specs.Programs.{instructions, IsCodeOf, AreModules, Belongs, Belong, region_of, Begins}
+use Rattle.tn_sym.specs.Programs.{AreModules, Belongs, Belong}
+use Rattle.tn_sym.specs.SymbolicRuns.{begun}
 use Rattle.tn_sym.proofs.Beginning.{execution}
+use Rattle.tn_sym.proofs.SymbolicRuns.{begun-begins}
 use Rattle.tn_system.specs.Sources.{Sources, parts_of}
 use Rattle.tn_system.specs.Systems.{SystemState, IsProcessorProgram, IsPlainFor, BelongTogether, IsSystem}
 use Rattle.tn_system.specs.Executions.{Executes}
-
--- ---- where it begins
-
-code_of : ProgramState → CodeState
-code_of g =
-    record {
-      base = g.linked.code_base;
-      bytes = g.linked.code;
-      instructions = instructions g.modules g.linked.code_base g.linked.cell_base
-          (one_is_least (pieces (program g.modules g.linked.cell_base))).sizes;
-    }
-
-is_code : (g : ProgramState) → IsCodeOf g (code_of g)
-unfolding code_of
-is_code g =
-    record {
-      sizes = (one_is_least (pieces (program g.modules g.linked.cell_base))).sizes;
-      least = (one_is_least (pieces (program g.modules g.linked.cell_base))).least;
-      base = refl;
-      bytes = refl;
-      instructions = refl;
-    }
-
-codes-are : (programs : List ProgramState) (p : ℕ) (g : ProgramState) (code : CodeState) → slice_get programs p ≡ Some g
-    → slice_get (map code_of programs) p ≡ Some code → IsCodeOf g code
-codes-are [] p g code at there = cc
-codes-are (h ∷ programs) zero g code at there =
-    let first : h ≡ g = cc in
-    let second : code_of h ≡ code = cc in
-    subst (IsCodeOf g) second (subst (λ (x : ProgramState). IsCodeOf x (code_of h)) first (is_code h))
-codes-are (h ∷ programs) (suc p) g code at there = codes-are programs p g code at there
-
-begun : (programs : List ProgramState) (board : WiredBoard (NodeState (List ℕ))) → (s : SymbolicState) × Begins programs board s
-begun programs board = (
-  record { board = guarded_wired (map region_of programs) board; codes = map code_of programs; stop = None },
-  record {
-    copy = refl;
-    count = length-map programs code_of;
-    codes = codes-are programs;
-    stop = refl;
-  },
-)
 
 -- ---- programs and images belong together
 
@@ -112,10 +66,10 @@ module _ (s : Sources) (y : SystemState) (is : IsSystem s y) where
   sizes-of [] = refl
   sizes-of (b ∷ blocks) = ap (λ sizes. b.size ∷ sizes) (sizes-of blocks)
 
-  sizes : y.network.sizes ≡ map (λ b. b.size) s.config.blocks
+  pub sizes : y.network.sizes ≡ map (λ b. b.size) s.config.blocks
   sizes = is.network.sizes ∙ sizes-of s.config.blocks
 
-  many : length y.network.sizes ≡ length s.config.blocks
+  pub many : length y.network.sizes ≡ length s.config.blocks
   many = ap length sizes ∙ length-map s.config.blocks (λ (b : BlockState). b.size)
 
   belongs : (p : ℕ) (g : ProgramState) (i : ImageBytes) → slice_get y.programs p ≡ Some g → slice_get y.images p ≡ Some i
@@ -138,7 +92,7 @@ module _ (s : Sources) (y : SystemState) (is : IsSystem s y) where
         first = zip-at BelongTogether y.programs y.images is.belong p g i at there;
       }
 
-  belong : Belong y.network y.programs y.images
+  pub belong : Belong y.network y.programs y.images
   belong = record {
     all_programs = AllZip-long (IsProcessorProgram s) s.config.blocks y.programs is.programs ∙ sym many;
     all_images = AllZip-long IsPlainFor s.config.blocks y.images is.plain ∙ sym many;
@@ -155,9 +109,13 @@ module _ (s : Sources) (y : SystemState) (is : IsSystem s y) where
       All-cons (λ (g : ProgramState). AreModules g.modules) g programs
       (subst AreModules (sym zip.0.holds.modules_are) zip.0.holds.linkable.valid) (valid-of blocks programs zip.1)
 
+  pub valid : All (λ (g : ProgramState). AreModules g.modules) y.programs
+  valid = valid-of s.config.blocks y.programs is.programs
+
   pub executes : Executes y
-  executes n board same held loaded = record {
-    begins = begun y.programs n.board;
-    follows = λ t begins. execution n y.programs y.images t board held (valid-of s.config.blocks y.programs is.programs)
-        (subst (λ (w : NetworkState). Belong w y.programs y.images) (sym same) belong) loaded begins;
-  }
+  executes n links same held loaded =
+      let here = subst (λ (w : NetworkState). Belong w y.programs y.images) (sym same) belong in
+      record {
+        begins = (begun y.programs n.board, begun-begins n.board.network y.programs y.images here n.board);
+        follows = λ t begins. execution n y.programs y.images t links held valid here loaded begins;
+      }

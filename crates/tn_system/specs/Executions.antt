@@ -1,12 +1,10 @@
 -- What a loaded system does.
 use Rattle.std.specs.Prelude.{◌≡◌, false, List}
-use Rattle.tn_node.specs.Nodes.{IsNode}
-use Rattle.tn_network.specs.Wires.{IsBoard}
-use Rattle.tn_network.specs.Nets.{NetState, memory_ops}
+use Rattle.tn_network.specs.Nets.{NetState}
 use Rattle.tn_sym.specs.ProgramStates.{ProgramState}
 use Rattle.tn_sym.specs.Symbolic.{SymbolicState}
 use Rattle.tn_sym.specs.Programs.{AreLoaded, Begins}
-use Rattle.tn_sym.specs.Follows.{Follows}
+use Rattle.tn_sym.specs.Follows.{Follows, HaveLinks}
 use Rattle.tn_system.specs.Systems.{SystemState}
 
 -- A symbolic network of the programs begins beside the network, and what the network does from there it
@@ -19,5 +17,5 @@ pub record FollowsPrograms (programs : List ProgramState) (n : NetState) : Type 
 -- runs are those of its programs.
 abbrev pub Executes : SystemState → Type 0
 Executes y =
-    (n : NetState) → IsBoard memory_ops (λ node. IsNode node) n.board.network n.board.state → n.board.network ≡ y.network
-    → n.holds.held ≡ false → AreLoaded y.images n.board.state → FollowsPrograms y.programs n
+    (n : NetState) → HaveLinks n.board.state → n.board.network ≡ y.network → n.holds.held ≡ false
+    → AreLoaded y.images n.board.state → FollowsPrograms y.programs n

@@ -6,7 +6,6 @@ ghost use Rattle.tn_system.specs.Executions.{Executes};
 
 /// From every state in which the network of a system is loaded with its images and its hold is lifted, a
 /// symbolic network of its programs begins, and what the network does that one does too, until it stops.
-#[tactic(auto, using(crate::proofs::Executing::executes))]
 pub fn executes()
     ensures law { (s : Sources) (y : SystemState) → IsSystem s y → Executes y }
 {}
