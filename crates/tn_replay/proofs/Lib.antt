@@ -1,9 +1,5 @@
-pub mod Arguments
-pub mod Lines
-pub mod Said
-pub mod ScheduleLaws
-pub mod ReadLoop
 pub mod TextLaws
+pub mod Settling
 pub mod LineLaws
 pub mod ReplayLaws
-pub mod PlacedActs
+pub mod TruthLaws

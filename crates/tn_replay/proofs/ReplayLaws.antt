@@ -7,12 +7,13 @@ use Rattle.std.proofs.lemmas.List.{take-append-drop}
 use Rattle.tn_text.specs.Counts.{Rose}
 use Rattle.tn_io.specs.Outs.{Printed, told_then}
 use Rattle.tn_network.specs.Nets.{NetState}
-use Rattle.tn_replay.specs.declared.acts.Line.{Line}
+use Rattle.tn_sym.specs.Symbolic.{SymbolicState}
+use Rattle.tn_schedule.specs.declared.acts.Line.{Line}
 use Rattle.tn_replay.specs.declared.replays.Summary.{Summary}
 use Rattle.tn_replay.specs.declared.replay_lines.LineFault.{LineFault}
 use Rattle.tn_replay.specs.declared.replay_lines.LineFault.TheVariants as line_fault
 use Rattle.tn_replay.specs.declared.replays.ReplayFault.TheVariants as fault
-use Rattle.tn_replay.specs.Replays.{Known, ReplayState, Left, Replayed, counted, line_done, behind, then_lines, replayed}
+use Rattle.tn_replay.specs.Replays.{Known, ReplayState, Left, Replayed, line_done, after_text, then_lines, replayed}
 use Rattle.tn_replay.specs.ReplayEnds.{AreDone, Reached, Replays}
 use Rattle.tn_replay.specs.Inner.LineEnds.{IsRefused, IsCut, IsShown, IsHidden, PrintEnds}
 use Rattle.tn_replay.specs.Inner.SoFar.{SoFar, fault_of}
@@ -36,7 +37,7 @@ told_part p rest whole before after is told =
 
 -- ---- what lines come to
 
-abbrev made_of : ReplayState → List ℕ → Option ℕ → Replayed
+abbrev pub made_of : ReplayState → List ℕ → Option ℕ → Replayed
 made_of s text refused = record { state = s; text = text; refused = refused }
 
 -- what lines come to behind so many that print a text
@@ -51,7 +52,7 @@ one_before : (n : ℕ) (o : Option ℕ) → option_map suc (option_map (λ i. n 
 one_before n None = refl
 one_before n (Some i) = ap Some (let e : suc (n + i) ≡ suc n + i = omega arith in e)
 
-not_refused : (o : Option ℕ) → option_map suc o ≡ None → o ≡ None
+pub not_refused : (o : Option ℕ) → option_map suc o ≡ None → o ≡ None
 not_refused None e = refl
 not_refused (Some i) e = absurd cc
 
@@ -61,28 +62,28 @@ some_none i e = absurd cc
 ahead_nothing : (r : Replayed) → r ≡ ahead 0 [] r
 ahead_nothing r = ap (λ (o : Option ℕ). made_of r.state r.text o) (none_before r.refused)
 
-ahead_more : (n : ℕ) (a b text : List ℕ) (q : Replayed) → a ++ b ≡ text → behind a (ahead n b q) ≡ ahead (suc n) text q
+ahead_more : (n : ℕ) (a b text : List ℕ) (q : Replayed) → a ++ b ≡ text → after_text a (ahead n b q) ≡ ahead (suc n) text q
 ahead_more n a b text q is =
     ap (λ w. made_of q.state w (option_map suc (option_map (λ i. n + i) q.refused)))
     (sym (append_assoc a b q.text) ∙ ap (λ w. w ++ q.text) is)
     ∙ ap (λ (o : Option ℕ). made_of q.state (text ++ q.text) o) (one_before n q.refused)
 
-is_ended : (r : Replayed) (t : ReplayState) → r.state ≡ t → r.refused ≡ None → r ≡ made_of t r.text None
+pub is_ended : (r : Replayed) (t : ReplayState) → r.state ≡ t → r.refused ≡ None → r ≡ made_of t r.text None
 is_ended r t state fine =
     ap (λ (x : ReplayState). made_of x r.text r.refused) state ∙ ap (λ (o : Option ℕ). made_of t r.text o) fine
 
 module _ (k : Known) where
-  none_done : (s : ReplayState) → replayed k [] s ≡ made_of s [] None
+  pub none_done : (s : ReplayState) → replayed k [] s ≡ made_of s [] None
   unfolding replayed
   none_done s = refl
 
-  first_stops : (line : Line) (lines : List Line) (s : ReplayState) → line_done k line.act s ≡ None
+  pub first_stops : (line : Line) (lines : List Line) (s : ReplayState) → line_done k line.act s ≡ None
       → replayed k (line ∷ lines) s ≡ made_of s [] (Some 0)
   unfolding replayed
   first_stops line lines s e = ap (λ (o : Option Left). then_lines o s (λ t. replayed k lines t)) e
 
-  first_goes : (line : Line) (lines : List Line) (s : ReplayState) (left : Left) → line_done k line.act s ≡ Some left
-      → replayed k (line ∷ lines) s ≡ behind left.text (replayed k lines left.state)
+  pub first_goes : (line : Line) (lines : List Line) (s : ReplayState) (left : Left) → line_done k line.act s ≡ Some left
+      → replayed k (line ∷ lines) s ≡ after_text left.text (replayed k lines left.state)
   unfolding replayed
   first_goes line lines s left e = ap (λ (o : Option Left). then_lines o s (λ t. replayed k lines t)) e
 
@@ -102,13 +103,13 @@ module _ (k : Known) where
           let same : made_of s [] (Some 0) ≡ made_of t text None = sym (first_stops x xs s e) ∙ done in
           absurd (some_none 0 (ap (λ (r : Replayed). r.refused) same))
       at (Some left) e more =
-          let same : behind left.text (replayed k xs left.state) ≡ made_of t text None = sym (first_goes x xs s left e) ∙ done in
+          let same : after_text left.text (replayed k xs left.state) ≡ made_of t text None = sym (first_goes x xs s left e) ∙ done in
           let state : (replayed k xs left.state).state ≡ t = ap (λ (r : Replayed). r.state) same in
           let refused : option_map suc (replayed k xs left.state).refused ≡ None = ap (λ (r : Replayed). r.refused) same in
           let fine = not_refused (replayed k xs left.state).refused refused in
           let words : left.text ++ (replayed k xs left.state).text ≡ text = ap (λ (r : Replayed). r.text) same in
           first_goes x (xs ++ ys) s left e
-          ∙ ap (behind left.text)
+          ∙ ap (after_text left.text)
           (more left.state (replayed k xs left.state).text (is_ended (replayed k xs left.state) t state fine))
           ∙ ahead_more (length xs) left.text (replayed k xs left.state).text text (replayed k ys t) words
 
@@ -117,7 +118,7 @@ module _ (k : Known) where
       → line_done k line.act t ≡ Some left → AreDone k (xs ++ line ∷ []) s left.state (text ++ left.text)
   done_more xs line s t text left done e =
       done_first xs (line ∷ []) s t text done
-      ∙ ap (ahead (length xs) text) (first_goes line [] t left e ∙ ap (behind left.text) (none_done left.state))
+      ∙ ap (ahead (length xs) text) (first_goes line [] t left e ∙ ap (after_text left.text) (none_done left.state))
       ∙ ap (λ w. made_of left.state (text ++ w) None) (append-nil left.text)
 
   -- one that may not be done
@@ -161,24 +162,22 @@ module _ (k : Known) (lines : List Line) (s : ReplayState) (before : Printed) wh
       told_nothing None = refl
       told_nothing (Some bs) = ap Some (sym (append-nil bs))
 
-  pub far_more : (t : ReplayState) (line : Line) (rest : List Line) (index : ℕ) (middle after : Printed) (new : NetState) (steps : ℕ)
-      → SoFar k lines s t (line ∷ rest) index before middle → IsShown k line.act t new steps middle after
-      → middle.faults ≤ after.faults → steps ≤ t.steps + 2 ^ 32
-      → SoFar k lines s (counted new steps) rest (index + 1) before after
-  far_more t line rest index middle after new steps far shown count few =
-      let state : shown.left.state ≡ counted new steps =
-      sym (ap (λ (n : NetState). counted n steps) shown.net ∙ ap (λ m. counted shown.left.state.net m) shown.steps) in
+  pub far_more : (t new : ReplayState) (line : Line) (rest : List Line) (index : ℕ) (middle after : Printed)
+      → SoFar k lines s t (line ∷ rest) index before middle → IsShown k line.act t new middle after → middle.faults ≤ after.faults
+      → new.steps ≤ t.steps + 2 ^ 32 → SoFar k lines s new rest (index + 1) before after
+  far_more t new line rest index middle after far shown count few =
       record {
         front = far.front ++ line ∷ [];
         text = far.text ++ shown.left.text;
         are = far.are ∙ sym (append_assoc far.front (line ∷ []) rest);
         place = one_longer far.front line ∙ ap (λ n. n + 1) far.place;
         done = done_more k far.front line s t far.text shown.left far.done shown.can
-            ∙ ap (λ (x : ReplayState). made_of x (far.text ++ shown.left.text) None) state;
+            ∙ ap (λ (x : ReplayState). made_of x (far.text ++ shown.left.text) None) (sym shown.state);
         printed = shown.printed ∙ ap (told_then shown.left.text) far.printed ∙ told_both far.text shown.left.text before.bytes;
         count = let a = far.count in omega (arith, a, count);
         few = let a = far.few in omega (arith, a, few);
-        network = ap (λ (n : NetState). n.board.network) shown.net ∙ line_network k line.act t shown.left shown.can ∙ far.network;
+        network = ap (λ (x : ReplayState). x.net.board.network) shown.state ∙ line_network k line.act t shown.left shown.can
+            ∙ far.network;
       }
     where
       one_longer : (xs : List Line) (x : Line) → length (xs ++ x ∷ []) ≡ length xs + 1
@@ -292,8 +291,8 @@ module _ (k : Known) (lines : List Line) (s : ReplayState) (before : Printed) wh
       count = counts;
     }
 
-    pub far_ends : (f : LineFault) → PrintEnds k line.act t new middle after (Err f)
+    pub far_ends : (symbolic : Option SymbolicState) (f : LineFault) → PrintEnds k line.act t new symbolic middle after (Err f)
         → Replays k lines s (Err (fault_of index f)) new before after
-    far_ends line_fault.NotEnabled ends = ends_refused ends.0 ends.1
-    far_ends line_fault.Out ends = ends_hidden ends
-    far_ends line_fault.NoMemory ends = ends_cut ends.0 ends.1
+    far_ends symbolic line_fault.NotEnabled ends = ends_refused ends.0 ends.1
+    far_ends symbolic line_fault.Out ends = ends_hidden ends
+    far_ends symbolic line_fault.NoMemory ends = ends_cut ends.0 ends.1

@@ -1,4 +1,5 @@
 -- What inner functions and loops hold to: no public clause cites it.
-pub mod Readers
+pub mod Lookups
 pub mod LineEnds
+pub mod Settling
 pub mod SoFar

@@ -1,10 +1,5 @@
-pub mod Keywords
-pub mod Places
-pub mod Statements
-pub mod Schedules
-pub mod ScheduleFaults
-pub mod ScheduleReading
 pub mod PrintedLines
 pub mod Replays
 pub mod ReplayEnds
+pub mod Truth
 pub mod Inner

@@ -1,5 +1,5 @@
 -- The lines that a replay prints.
-use Rattle.std.specs.Prelude.{ℕ, ◌/◌, ◌%◌, Bool, true, false, List, [], ◌∷◌, Option, Some, None, Result, Ok, Err, codes}
+use Rattle.std.specs.Prelude.{ℕ, ◌/◌, ◌%◌, Bool, true, false, List, [], ◌∷◌, ◌++◌, Option, Some, None, Result, Ok, Err, codes}
 use Rattle.std.specs.Fmt.{decimal, digit_glyph}
 use Rattle.std.specs.List.{flat_map}
 use Rattle.tn_text.specs.WordTexts.{word_text}
@@ -22,15 +22,16 @@ abbrev pub reg_text : Reg → List ℕ
 reg_text reg.Undefined = codes "?"
 reg_text (reg.Word w) = word_text w
 
--- the word of a mode
-abbrev pub stopped_word : Why → List ℕ
-stopped_word why.Undefined = codes "stopped-undefined"
-stopped_word why.Outside = codes "stopped-outside"
-stopped_word why.Halted = codes "stopped-halted"
-stopped_word why.BadOp = codes "stopped-badop"
-stopped_word why.Code = codes "stopped-code"
-stopped_word why.Stray = codes "stopped-stray"
+-- why a processor stopped
+abbrev pub why_word : Why → List ℕ
+why_word why.Undefined = codes "undefined"
+why_word why.Outside = codes "outside"
+why_word why.Halted = codes "halted"
+why_word why.BadOp = codes "badop"
+why_word why.Code = codes "code"
+why_word why.Stray = codes "stray"
 
+-- the word of a mode
 abbrev pub mode_word : Mode → List ℕ
 mode_word mode.Reset = codes "reset"
 mode_word mode.Poking = codes "poking"
@@ -39,7 +40,7 @@ mode_word mode.Replying = codes "replying"
 mode_word mode.Booting = codes "booting"
 mode_word mode.Running = codes "running"
 mode_word mode.Idle = codes "idle"
-mode_word (mode.Stopped w) = stopped_word w
+mode_word (mode.Stopped w) = codes "stopped-" ++ why_word w
 
 -- whether the instruction pointer and the workspace pointer are those of a program
 abbrev pub has_pointers : Mode → Bool
@@ -121,3 +122,14 @@ steps_line steps = joined (codes "steps " ∷ decimal steps ∷ codes "\n" ∷ [
 unfoldable pub settle_line : Bool → ℕ → List ℕ
 settle_line true made = joined (codes "rest " ∷ decimal made ∷ codes "\n" ∷ [])
 settle_line false made = joined (codes "budget " ∷ decimal made ∷ codes "\n" ∷ [])
+
+-- of the symbolic network: held before it begins; then same, or the processor that stopped first, and why
+abbrev pub held_line : List ℕ
+held_line = codes "held\n"
+
+abbrev pub same_line : List ℕ
+same_line = codes "same\n"
+
+-- stopped NAME WHY
+unfoldable pub stopped_line : List ℕ → Why → List ℕ
+stopped_line name w = joined (codes "stopped " ∷ name ∷ codes " " ∷ why_word w ∷ codes "\n" ∷ [])

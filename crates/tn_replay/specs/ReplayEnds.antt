@@ -1,21 +1,24 @@
--- What a replay promises.
-use Rattle.std.specs.Prelude.{◌≡◌, ℕ, ◌≤◌, ◌⊎◌, List, ◌∷◌, ◌++◌, length, take, Option, Some, None, Result, Err, IfOk, OnErr, IsErrOf}
+-- What a replay asks for, and what it promises.
+use Rattle.std.specs.Prelude.{◌≡◌, ℕ, ◌≤◌, ◌⊎◌, List, ◌∷◌, ◌++◌, length, take, All, Option, Some, None, Result, Err, IfOk, OnErr}
+use Rattle.std.specs.Prelude.{IsErrOf}
 use Rattle.tn_text.specs.Counts.{Rose}
 use Rattle.tn_io.specs.Outs.{Printed, told_then}
 use Rattle.tn_net.specs.Networks.{NetworkState}
 use Rattle.tn_network.specs.Nets.{NetState}
-use Rattle.tn_replay.specs.declared.acts.Act.{Act}
-use Rattle.tn_replay.specs.declared.acts.Line.{Line}
+use Rattle.tn_sym.specs.Programs.{AreModules, Belong}
+use Rattle.tn_schedule.specs.declared.acts.Act.{Act}
+use Rattle.tn_schedule.specs.declared.acts.Line.{Line}
 use Rattle.tn_replay.specs.declared.replays.Summary.{Summary}
 use Rattle.tn_replay.specs.declared.replays.ReplayFault.{ReplayFault}
 use Rattle.tn_replay.specs.declared.replays.ReplayFault.TheVariants as fault
 use Rattle.tn_replay.specs.Replays.{Known, ReplayState, Left, Replayed, line_done, replayed}
 
--- one name, one program and one image for each processor
-pub record AreGiven (network : NetworkState) (name_count program_count image_count : ℕ) : Type 0 where
-  pub names : name_count ≡ length network.sizes
-  pub programs : program_count ≡ length network.sizes
-  pub images : image_count ≡ length network.sizes
+-- what lines look things up in is that of a network: there is a name for each processor, and its program,
+-- of valid modules, belongs to its image
+pub record IsKnownOf (network : NetworkState) (k : Known) : Type 0 where
+  pub names : length k.names ≡ length network.sizes
+  pub valid : All (λ program. AreModules program.modules) k.programs
+  pub belong : Belong network k.programs k.images
 
 -- lines that may all be done leave a state, and print a text
 abbrev pub AreDone : Known → List Line → ReplayState → ReplayState → List ℕ → Type 0

@@ -1,16 +1,13 @@
-//! Schedules: texts that say pick by pick, or by how many picks at most, in which order a network
-//! steps, and what of it is printed in between.
+//! Replays of schedules: in the order that a schedule says a network steps, beside it, once its hold is
+//! lifted, the symbolic network of its programs, and what the schedule asks for is printed in between.
 #![tactic(auto)]
 
-mod acts;
-mod keywords;
-mod places;
+mod lookups;
 mod printed_lines;
-mod readers;
 mod replay_lines;
 mod replays;
-mod statements;
+mod steps;
+mod theorems;
 
-pub use acts::{Act, Line, Schedule, ScheduleFault};
-pub use readers::read_schedule;
 pub use replays::{ReplayFault, Summary, replay};
+pub use theorems::tells_truth;

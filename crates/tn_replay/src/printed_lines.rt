@@ -1,9 +1,9 @@
 ghost use Rattle.std.specs.Prelude.{◌≡◌, ◌%◌, ◌++◌, ◌∷◌, [], true, codes, OnOk};
 ghost use Rattle.std.specs.Fmt.{decimal, digit_glyph};
 ghost use Rattle.tn_text.specs.WordTexts.{word_text};
-ghost use Rattle.tn_replay.specs.PrintedLines.{joined, reg_text, stopped_word, mode_word, has_pointers, pointer_text, flag_text};
+ghost use Rattle.tn_replay.specs.PrintedLines.{joined, reg_text, why_word, mode_word, has_pointers, pointer_text, flag_text};
 ghost use Rattle.tn_replay.specs.PrintedLines.{state_line, byte_text, byte_or, input_text, output_text, link_line, loaded_text, word_line};
-ghost use Rattle.tn_replay.specs.PrintedLines.{symbol_text, host_line, got_line, steps_line, settle_line};
+ghost use Rattle.tn_replay.specs.PrintedLines.{symbol_text, host_line, got_line, steps_line, settle_line, stopped_line};
 
 use std::alloc::{AllocError, Global};
 use std::string::ToString;
@@ -40,7 +40,45 @@ fn put_mode(name: &Name, mode: Mode, out: &mut Vec<u8>) -> Result<(), AllocError
 {
     out.extend_from_slice(name.bytes())?;
     out.push(b' ')?;
-    out.extend_from_slice(mode_word(mode).as_bytes())?;
+    put_mode_word(mode, out)
+}
+
+/// Puts the word of a mode.
+fn put_mode_word(mode: Mode, out: &mut Vec<u8>) -> Result<(), AllocError>
+    ensures { OnOk result (out.new.items ≡ out.old.items ++ mode_word mode) }
+{
+    match mode {
+        Mode::Reset => put(b"reset", out),
+        Mode::Poking => put(b"poking", out),
+        Mode::Peeking => put(b"peeking", out),
+        Mode::Replying => put(b"replying", out),
+        Mode::Booting => put(b"booting", out),
+        Mode::Running => put(b"running", out),
+        Mode::Idle => put(b"idle", out),
+        Mode::Stopped(why) => put_stop_word(why, out),
+    }
+}
+
+/// Puts the word of the mode of a processor that stopped.
+#[tactic(auto, using(crate::proofs::TextLaws::text_steps))]
+fn put_stop_word(why: Why, out: &mut Vec<u8>) -> Result<(), AllocError>
+    ensures { OnOk result (out.new.items ≡ out.old.items ++ (codes "stopped-" ++ why_word why)) }
+{
+    out.extend_from_slice(b"stopped-")?;
+    out.extend_from_slice(why_word(why).as_bytes())?;
+    Ok(())
+}
+
+/// Puts the line of a processor that stopped the symbolic network.
+#[tactic(auto, using(crate::proofs::TextLaws::text_steps), unfolding(crate::specs::PrintedLines::stopped_line))]
+pub fn put_stopped(name: &[u8], why: Why, out: &mut Vec<u8>) -> Result<(), AllocError>
+    ensures { OnOk result (out.new.items ≡ out.old.items ++ stopped_line name.now why) }
+{
+    out.extend_from_slice(b"stopped ")?;
+    out.extend_from_slice(name)?;
+    out.push(b' ')?;
+    out.extend_from_slice(why_word(why).as_bytes())?;
+    out.push(b'\n')?;
     Ok(())
 }
 
@@ -256,31 +294,17 @@ fn put_counted(
     Ok(())
 }
 
-fn mode_word(mode: Mode) -> &'static str
-    ensures { result.now ≡ mode_word mode }
-{
-    match mode {
-        Mode::Reset => "reset",
-        Mode::Poking => "poking",
-        Mode::Peeking => "peeking",
-        Mode::Replying => "replying",
-        Mode::Booting => "booting",
-        Mode::Running => "running",
-        Mode::Idle => "idle",
-        Mode::Stopped(why) => stopped_word(why),
-    }
-}
-
-fn stopped_word(why: Why) -> &'static str
-    ensures { result.now ≡ stopped_word why }
+/// Why a processor stopped.
+fn why_word(why: Why) -> &'static str
+    ensures { result.now ≡ why_word why }
 {
     match why {
-        Why::Undefined => "stopped-undefined",
-        Why::Outside => "stopped-outside",
-        Why::Halted => "stopped-halted",
-        Why::BadOp => "stopped-badop",
-        Why::Code => "stopped-code",
-        Why::Stray => "stopped-stray",
+        Why::Undefined => "undefined",
+        Why::Outside => "outside",
+        Why::Halted => "halted",
+        Why::BadOp => "badop",
+        Why::Code => "code",
+        Why::Stray => "stray",
     }
 }
 
@@ -397,7 +421,8 @@ fn low_digit(byte: u8) -> u8
     }
 }
 
-fn put(text: &[u8], out: &mut Vec<u8>) -> Result<(), AllocError>
+/// Puts a text.
+pub fn put(text: &[u8], out: &mut Vec<u8>) -> Result<(), AllocError>
     ensures { OnOk result (out.new.items ≡ out.old.items ++ text.now) }
 {
     out.extend_from_slice(text)?;

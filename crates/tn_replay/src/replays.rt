@@ -1,19 +1,22 @@
-ghost use Rattle.std.specs.Prelude.{◌≡◌, ◌+◌, ◌<◌, ◌≤◌, ◌^◌, length, IfOk};
+ghost use Rattle.std.specs.Prelude.{◌≡◌, ◌+◌, ◌<◌, ◌≤◌, ◌^◌, true, length, None, IfOk};
 ghost use Rattle.tn_io.specs.Outs.{Prints};
-ghost use Rattle.tn_replay.specs.Schedules.{ArePlaced, IsPlaced};
-ghost use Rattle.tn_replay.specs.Replays.{known, counted};
-ghost use Rattle.tn_replay.specs.ReplayEnds.{AreGiven, Replays};
-ghost use Rattle.tn_replay.specs.Inner.LineEnds.{PrintEnds};
+ghost use Rattle.tn_schedule.specs.Schedules.{ArePlaced, IsPlaced};
+ghost use Rattle.tn_replay.specs.Replays.{known, beginning};
+ghost use Rattle.tn_replay.specs.ReplayEnds.{IsKnownOf, Replays};
+ghost use Rattle.tn_replay.specs.Inner.LineEnds.{state_of, PrintEnds};
+ghost use Rattle.tn_replay.specs.Inner.Lookups.{known_in};
 ghost use Rattle.tn_replay.specs.Inner.SoFar.{fault_of};
 
-use crate::acts::{Act, Schedule};
+use crate::lookups::Lookup;
 use crate::replay_lines::{LineFault, do_line};
 use std::alloc::Global;
 use thiserror::Error;
 use tn_io::{Out, OutFault};
+use tn_net::Network;
 use tn_network::Net;
+use tn_schedule::{Act, Schedule};
 use tn_stream::Image;
-use tn_sym::Program;
+use tn_sym::{Program, SymNet};
 use tn_text::Name;
 
 /// A replay that came to its end.
@@ -36,12 +39,13 @@ pub enum ReplayFault {
     NoMemory,
 }
 
-/// Does the lines of a schedule to a network one after the other, and prints what they say: a line at
-/// most for each, or four for `links`, by one write.
+/// Does the lines of a schedule to a network that is held, one after the other, and prints what they
+/// say: a line at most for each, or four for `links`, by one write. Once the hold is lifted the symbolic
+/// network of the programs goes beside it: each pick but a prefix byte is one of both, until that stops.
 ///
-/// There is one name, one program and one image for each processor. The processors of the acts that
-/// print are positions in the names, as in any schedule that was read with them, and the lines are fewer
-/// than 2^31.
+/// There is a name for each processor; programs and images belong together. The processors of the acts
+/// that print are positions in the names, as in any schedule that was read with them, and the lines are
+/// fewer than 2^31.
 ///
 /// `NotEnabled` comes exactly at the first line whose pick or release is not enabled in the state that
 /// the lines before it leave, and carries its index from 0; the network is in that state, and what those
@@ -49,27 +53,58 @@ pub enum ReplayFault {
 /// `Out` comes only where the output's count of faults rose: the network is as the line left it whose
 /// text was refused. `NoMemory` leaves it as the lines before left it, or with the picks or the release
 /// of the line at which it came. A prefix of the text was printed then.
+///
+/// By the law of `tells_truth` the two networks are in the same state wherever `same` is printed.
 pub fn replay<O: Out>(
     alloc: Global,
     net: &mut Net,
+    network: &Network,
     names: &[Name],
     programs: &[Program],
     images: &[Image],
     schedule: &Schedule,
     out: &mut O,
 ) -> Result<Summary, ReplayFault>
-    requires given { AreGiven net.old.board.network (length names.now) (length programs.now) (length images.now) }
+    requires wires { net.old.board.network ≡ network.now }
+    requires known { IsKnownOf network.now (known names.now programs.now images.now) }
+    requires held { net.old.holds.held ≡ true }
     requires placed { ArePlaced (length names.now) schedule.now.lines.items }
     requires few { length schedule.now.lines.items < 2 ^ 31 }
-    ensures replays { Replays (known names.now programs.now images.now) schedule.now.lines.items (counted net.old 0)
+    ensures replays { Replays (known names.now programs.now images.now) schedule.now.lines.items (beginning net.old)
         result net.new (O.printed out.old) (O.printed out.new) }
     ensures goes_on { O.goes_on out.old out.new }
 {
+    let lookup = Lookup {
+        network,
+        names,
+        programs,
+        images,
+    };
+    do_lines(alloc, &lookup, schedule, net, out)
+}
+
+/// The same, looking things up there.
+fn do_lines<O: Out>(
+    alloc: Global,
+    lookup: &Lookup,
+    schedule: &Schedule,
+    net: &mut Net,
+    out: &mut O,
+) -> Result<Summary, ReplayFault>
+    requires wires { net.old.board.network ≡ lookup.now.network.now }
+    requires known { IsKnownOf net.old.board.network (known_in lookup.now) }
+    requires placed { ArePlaced (length lookup.now.names.now) schedule.now.lines.items }
+    requires few { length schedule.now.lines.items < 2 ^ 31 }
+    ensures replays { Replays (known_in lookup.now) schedule.now.lines.items (beginning net.old)
+        result net.new (O.printed out.old) (O.printed out.new) }
+    ensures goes_on { O.goes_on out.old out.new }
+{
+    let mut symbolic = None;
     let mut steps = 0;
     let mut index = 0;
     let mut rest = schedule.lines.as_slice();
     while let Some((line, behind)) = rest.split_first() {
-        match replay_line(alloc, net, names, programs, images, line.act, steps, out) {
+        match replay_line(alloc, lookup, line.act, net, &mut symbolic, steps, out) {
             Ok(made) => {
                 steps = made;
                 index += 1;
@@ -96,25 +131,25 @@ fn fault_of(index: u32, fault: LineFault) -> ReplayFault
 /// many were before.
 fn replay_line<O: Out>(
     alloc: Global,
-    net: &mut Net,
-    names: &[Name],
-    programs: &[Program],
-    images: &[Image],
+    lookup: &Lookup,
     act: Act,
+    net: &mut Net,
+    symbolic: &mut Option<SymNet>,
     steps: u64,
     out: &mut O,
 ) -> Result<u64, LineFault>
-    requires given { AreGiven net.old.board.network (length names.now) (length programs.now) (length images.now) }
-    requires placed { IsPlaced (length names.now) act }
+    requires wires { net.old.board.network ≡ lookup.now.network.now }
+    requires known { IsKnownOf net.old.board.network (known_in lookup.now) }
+    requires placed { IsPlaced (length lookup.now.names.now) act }
     requires room { steps + 2 ^ 32 < 2 ^ 64 }
-    ensures ends { PrintEnds (known names.now programs.now images.now) act (counted net.old steps) net.new
+    ensures ends { PrintEnds (known_in lookup.now) act (state_of net.old symbolic.old steps) net.new symbolic.new
         (O.printed out.old) (O.printed out.new) result }
     ensures few { IfOk result (λ made. made ≤ steps + 2 ^ 32) }
     ensures count { (O.printed out.old).faults ≤ (O.printed out.new).faults }
     ensures goes_on { O.goes_on out.old out.new }
 {
     let mut text = Vec::new(alloc);
-    match do_line(alloc, net, names, programs, images, act, steps, &mut text) {
+    match do_line(alloc, lookup, act, net, symbolic, steps, &mut text) {
         Ok(made) => match print_text(&text, out) {
             Ok(()) => Ok(made),
             Err(_) => Err(LineFault::Out),

@@ -1,7 +1,7 @@
 -- How far a replay has come.
 use Rattle.std.specs.Prelude.{◌≡◌, ℕ, ◌+◌, ◌*◌, ◌^◌, ◌≤◌, List, ◌++◌, length}
 use Rattle.tn_io.specs.Outs.{Printed, told_then}
-use Rattle.tn_replay.specs.declared.acts.Line.{Line}
+use Rattle.tn_schedule.specs.declared.acts.Line.{Line}
 use Rattle.tn_replay.specs.declared.replay_lines.LineFault.{LineFault}
 use Rattle.tn_replay.specs.declared.replay_lines.LineFault.TheVariants as line_fault
 use Rattle.tn_replay.specs.declared.replays.ReplayFault.{ReplayFault}

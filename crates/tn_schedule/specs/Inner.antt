@@ -1,0 +1,2 @@
+-- What inner functions and loops hold to: no public clause cites it.
+pub mod Readers
