@@ -20,7 +20,7 @@ use Rattle.tn_top.specs.SystemPlans.{config_plan, library_file_plan, sources_of,
 use Rattle.tn_top.specs.SystemPlans.{system_tree, tree_printed}
 use Rattle.tn_top.specs.Refusals.{end_status}
 use Rattle.tn_top.specs.Outcomes.{Told, Holds}
-use Rattle.tn_replay.specs.declared.acts.Line.{Line}
+use Rattle.tn_schedule.specs.declared.acts.Line.{Line}
 use Rattle.tn_top.specs.ReplayPlans.{processor_names, schedule_plan, ReplaySources, replay_sources, replay_sources_plan}
 use Rattle.tn_top.specs.ReplayPlans.{replay_of, said_of}
 use Rattle.tn_top.specs.ReplayPlans.{replay_answer, replay_printed, replay_plan}
@@ -30,7 +30,7 @@ use Rattle.tn_top.specs.Inner.Ends.{Ends, wrote_all, showed_all, unable, wrote_p
 use Rattle.tn_top.specs.Inner.Ends.{not_enabled}
 use Rattle.tn_top.proofs.OwnFileLaws.{given-over}
 use Rattle.tn_system.proofs.Executing.{executes}
-use Rattle.tn_top.proofs.SystemBoots.{system-boots, one-boots}
+use Rattle.tn_top.proofs.SystemBoots.{system-boots, system-truth, one-boots}
 
 module _ {B : Type 0} (files : Option Files) (b : B) where
   -- a plan that gives a value comes to no other
@@ -242,6 +242,7 @@ replayed config schedule before old new s =
       printed = s.printed ∙ ap (λ text. told_then text old.bytes) all.1;
       boots = system-boots of.0 r.system of.3;
       executes = executes of.0 r.system of.3;
+      truth = system-truth of.0 r of.2 of.3;
     }
 
 pub ends-replayed : {T : Type 0} (config schedule : List ℕ) (before after : Stored) (old new : Printed) (r : Result T Refusal)

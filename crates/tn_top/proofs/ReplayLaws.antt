@@ -2,7 +2,7 @@
 use Rattle.std.proofs.Common.{◌≡◌, ℕ, Bool, true, false, zero, suc, ◌+◌, ◌-◌, ◌<◌, List, [], ◌∷◌, ◌++◌, length}
 use Rattle.std.proofs.Common.{map, take, Option, Some, None, Result, Ok, Err}
 use Rattle.std.proofs.Common.{Bor, get_or, refl, sym, ap, ap₂, ◌∙◌, arith, append-nil}
-use Rattle.std.specs.Prelude.{slice_get, slice_index_or, nat_lt, if◌then◌else◌}
+use Rattle.std.specs.Prelude.{slice_index_or, nat_lt, if◌then◌else◌}
 use Rattle.std.specs.List.{flat_map}
 use Rattle.std.proofs.lemmas.Grind.{flat_map-append}
 use Rattle.std.proofs.lemmas.List.{append_assoc, map-append, take_more}
@@ -13,22 +13,14 @@ use Rattle.tn_text.specs.declared.limits.Limit.TheVariants.{Lines}
 use Rattle.tn_text.specs.declared.limits.TheConstants.{LINE_LIMIT}
 use Rattle.tn_text.specs.WordTexts.{spaced}
 use Rattle.tn_io.specs.Outs.{Printed, told_then}
-use Rattle.tn_replay.specs.declared.acts.Line.{Line}
-use Rattle.tn_replay.specs.declared.acts.ScheduleFault.{ScheduleFault}
-use Rattle.tn_replay.specs.declared.acts.ScheduleFault.TheVariants as reading
-use Rattle.tn_replay.specs.Schedules.{ScheduleState}
-use Rattle.tn_replay.specs.ScheduleReading.{schedule_read, faulted, limited}
+use Rattle.tn_schedule.specs.declared.acts.Line.{Line}
+use Rattle.tn_schedule.specs.declared.acts.ScheduleFault.{ScheduleFault}
+use Rattle.tn_schedule.specs.declared.acts.ScheduleFault.TheVariants as reading
+use Rattle.tn_schedule.specs.Schedules.{ScheduleState}
+use Rattle.tn_schedule.specs.ScheduleReading.{schedule_read, faulted, limited}
 use Rattle.tn_replay.specs.declared.replays.Summary.{Summary}
 use Rattle.tn_replay.specs.declared.replays.ReplayFault.TheVariants as replaying
-use Rattle.std.proofs.lemmas.Option.{slice_get-map}
-use Rattle.std.proofs.Math.Path.{fun_ext}
-use Rattle.tn_stream.specs.declared.images.Image.{Image}
-use Rattle.tn_stream.specs.Images.{images_of}
-use Rattle.tn_load.specs.Targets.{targets_of}
-use Rattle.tn_sym.specs.declared.programs.Program.{Program}
-use Rattle.tn_sym.specs.ProgramStates.{ProgramState, program_of}
-use Rattle.tn_replay.specs.Replays.{Known, known, counted, ReplayState, Left, Replayed, then_lines, behind, line_done, replayed}
-use Rattle.tn_replay.specs.Replays.{symbol_in as replay_symbol}
+use Rattle.tn_replay.specs.Replays.{Known, beginning, ReplayState, Left, Replayed, then_lines, line_done, replayed}
 use Rattle.tn_replay.specs.ReplayEnds.{Replays}
 use Rattle.tn_network.specs.Nets.{NetState}
 use Rattle.tn_top.specs.declared.refusals.Refusal.{Refusal}
@@ -36,32 +28,12 @@ use Rattle.tn_top.specs.declared.refusals.Refusal.TheVariants as refusal
 use Rattle.tn_top.specs.Plans.{Answer, fault, limit, refused}
 use Rattle.tn_top.specs.ModulePlans.{or_fault}
 use Rattle.tn_top.specs.Outcomes.{Begins, printed_by}
-use Rattle.tn_top.specs.ReplayPlans.{processor_names, ReplaySources, symbol_in, known_of, schedule_in, with_text, line_of, tokens_at}
+use Rattle.tn_top.specs.ReplayPlans.{ReplaySources, known_of, schedule_in, with_text, line_of, tokens_at}
 use Rattle.tn_top.specs.ReplayPlans.{replay_of, said_of}
 use Rattle.tn_top.specs.SystemNets.{system_net}
 use Rattle.tn_top.specs.Inner.Ends.{Prints}
 use Rattle.tn_top.specs.Inner.Replays.{IsStepRefusal, WhyCut, Replies}
 use Rattle.tn_top.proofs.TreeTexts.{none-of-it}
-
--- ---- what lines look up
-
-pub known-same : (names : List (List ℕ)) (programs : List Program) (images : List Image)
-    → known names programs images ≡ known_of names (map program_of programs) (images_of images)
-known-same names programs images =
-    ap {A = ℕ → ℕ → Option (List ℕ × ℕ)} (λ symbols. record {
-      names = names;
-      targets = targets_of (images_of images);
-      symbols = symbols;
-    }) (fun_ext (λ p. fun_ext (λ address. same p address)))
-  where
-    case : (o : Option Program) (address : ℕ) → replay_symbol o address ≡ symbol_in (option_map program_of o) address
-    case None address = refl
-    case (Some g) address = refl
-
-    same : (p address : ℕ) → replay_symbol (slice_get programs p) address ≡ symbol_in (slice_get (map program_of programs) p) address
-    same p address =
-        case (slice_get programs p) address ∙ ap (λ (o : Option ProgramState). symbol_in o address)
-        (sym (slice_get-map program_of programs p))
 
 -- ---- answers
 
@@ -77,11 +49,10 @@ said-prints file text acts printed None = refl
 said-prints file text acts printed (Some i) = refl
 
 -- what a replay comes to, by what its lines look up and the network that it begins in
-pub replay-is : (r : ReplaySources) (k : Known) (net : NetState)
-    → k ≡ known_of (processor_names r.config) r.system.programs r.system.images → net ≡ system_net r.schedule.power r.system
-    → replay_of r ≡ replayed k r.schedule.lines (counted net 0)
+pub replay-is : (r : ReplaySources) (k : Known) (net : NetState) → k ≡ known_of r → net ≡ system_net r.schedule.power r.system
+    → replay_of r ≡ replayed k r.schedule.lines (beginning net)
 unfolding replay_of
-replay-is r k net same_k same_net = ap₂ (λ x n. replayed x r.schedule.lines (counted n 0)) (sym same_k) (sym same_net)
+replay-is r k net same_k same_net = ap₂ (λ x n. replayed x r.schedule.lines (beginning n)) (sym same_k) (sym same_net)
 
 -- ---- schedules
 

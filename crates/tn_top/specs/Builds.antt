@@ -13,7 +13,8 @@ use Rattle.tn_top.specs.Commands.{code_plan}
 use Rattle.tn_top.specs.OneProcessor.{code_image, boot_stream}
 use Rattle.tn_top.specs.SystemPlans.{system_plan, system_stream, system_tree}
 use Rattle.tn_top.specs.GridPlans.{grid_files, grid_text}
-use Rattle.tn_top.specs.ReplayPlans.{ReplaySources, replay_sources_plan, replay_of}
+use Rattle.tn_replay.specs.Truth.{AreTrue}
+use Rattle.tn_top.specs.ReplayPlans.{ReplaySources, replay_sources_plan, known_of, power_up, replay_of}
 use Rattle.tn_top.specs.Outcomes.{Told, Holds}
 
 -- ---- systems
@@ -47,7 +48,7 @@ pub record IsShown (config : List ℕ) (before : Stored) (old new : Printed) : T
 
 -- The configuration of a file makes a system, and with it a schedule was read, all lines of which could be
 -- done; what they print in the system's network was printed, and the stream that the host sends loads it,
--- and it then runs as the programs do.
+-- and it then runs as the programs do: wherever a line `same` tells so, it is so.
 pub record IsReplayed (config schedule : List ℕ) (before : Stored) (old new : Printed) : Type 0 where
   pub sources : Sources
   pub replayed : ReplaySources
@@ -59,6 +60,7 @@ pub record IsReplayed (config schedule : List ℕ) (before : Stored) (old new : 
   pub printed : new.bytes ≡ told_then (replay_of replayed).text old.bytes
   pub boots : SystemBoots replayed.system
   pub executes : Executes replayed.system
+  pub truth : AreTrue (known_of replayed) replayed.schedule.lines (power_up replayed)
 
 -- ---- grids
 

@@ -1,6 +1,6 @@
 -- The plan of a replay: a system, a schedule, and what the lines of the schedule come to in the network
 -- of the system.
-use Rattle.std.specs.Prelude.{ℕ, ◌+◌, ◌-◌, ◌&&◌, nat_le, nat_lt, List, [], ◌∷◌, ◌++◌, map, length, slice_get}
+use Rattle.std.specs.Prelude.{ℕ, ◌-◌, nat_lt, List, [], ◌∷◌, ◌++◌, map, length, slice_get}
 use Rattle.std.specs.Prelude.{slice_index_or, Option, Some, None, Result, Ok}
 use Rattle.std.specs.Prelude.{Err, if◌then◌else◌}
 use Rattle.std.specs.List.{flat_map}
@@ -10,15 +10,11 @@ use Rattle.tn_text.specs.WordTexts.{spaced}
 use Rattle.tn_text.specs.declared.limits.TheConstants.{LINE_LIMIT}
 use Rattle.tn_text.specs.declared.limits.Limit.TheVariants.{Lines}
 use Rattle.tn_config.specs.Configurations.{ConfigState}
-use Rattle.tn_stream.specs.Images.{ImageBytes}
-use Rattle.tn_list.specs.Symbols.{nearest}
-use Rattle.tn_load.specs.Targets.{targets_of}
-use Rattle.tn_sym.specs.ProgramStates.{ProgramState}
 use Rattle.tn_system.specs.Systems.{SystemState}
-use Rattle.tn_replay.specs.declared.acts.Line.{Line}
-use Rattle.tn_replay.specs.Schedules.{ScheduleState}
-use Rattle.tn_replay.specs.ScheduleReading.{schedule_read}
-use Rattle.tn_replay.specs.Replays.{Known, counted, Replayed, replayed}
+use Rattle.tn_schedule.specs.declared.acts.Line.{Line}
+use Rattle.tn_schedule.specs.Schedules.{ScheduleState}
+use Rattle.tn_schedule.specs.ScheduleReading.{schedule_read}
+use Rattle.tn_replay.specs.Replays.{Known, ReplayState, beginning, Replayed, replayed}
 use Rattle.tn_top.specs.Plans.{Answer, limit, refused, done, Plan, gives, reads, then_plan, at_once}
 use Rattle.tn_top.specs.ModulePlans.{or_fault}
 use Rattle.tn_top.specs.SystemPlans.{system_plan}
@@ -84,23 +80,17 @@ number_of (Some line) = line.line
 abbrev pub line_of : List Line → ℕ → ℕ
 line_of acts i = number_of (slice_get acts i)
 
--- the label that an address belongs to in a program, if there is one
-abbrev pub symbol_in : Option ProgramState → ℕ → Option (List ℕ × ℕ)
-symbol_in None address = None
-symbol_in (Some g) address =
-    if nat_le g.linked.code_base address && nat_lt address (g.linked.code_base + length g.linked.code)
-    then nearest g.modules address None g.linked.placed else None
+-- what the lines look things up in: the names of the processors, their programs and their images
+abbrev pub known_of : ReplaySources → Known
+known_of r = record { names = processor_names r.config; programs = r.system.programs; images = r.system.images }
 
--- what the lines look things up in: the names of the processors, their images and their programs
-abbrev pub known_of : List (List ℕ) → List ProgramState → List ImageBytes → Known
-known_of names programs images =
-    record { names = names; targets = targets_of images; symbols = λ p address. symbol_in (slice_get programs p) address }
+-- where the replay begins: at power-up
+abbrev pub power_up : ReplaySources → ReplayState
+power_up r = beginning (system_net r.schedule.power r.system)
 
 -- what the lines of the schedule come to: from power-up, with no pick made
 unfoldable pub replay_of : ReplaySources → Replayed
-replay_of r =
-    replayed (known_of (processor_names r.config) r.system.programs r.system.images) r.schedule.lines
-    (counted (system_net r.schedule.power r.system) 0)
+replay_of r = replayed (known_of r) r.schedule.lines (power_up r)
 
 -- all lines were done, or the step of the line of an act, in a schedule of this file and this text, is not
 -- enabled; this is printed

@@ -3,7 +3,8 @@ ghost use Rattle.std.specs.List.{flat_map};
 ghost use Rattle.tn_text.specs.WordTexts.{spaced};
 ghost use Rattle.tn_text.specs.declared.limits.TheConstants.{FILE_LIMIT};
 ghost use Rattle.tn_top.specs.ReplayPlans.{schedule_in, with_text, schedule_plan, replay_sources_plan, line_at, one_apart, tokens_at};
-ghost use Rattle.tn_top.specs.ReplayPlans.{line_of, replay_answer};
+ghost use Rattle.tn_replay.specs.ReplayEnds.{IsKnownOf};
+ghost use Rattle.tn_top.specs.ReplayPlans.{line_of, known_of, replay_answer};
 ghost use Rattle.tn_top.specs.Inner.Stages.{Staged, Makes};
 ghost use Rattle.tn_top.specs.Inner.Replays.{scheduled, replayed_of, AreWithin, IsStepRefusal, Replies};
 ghost use Rattle.tn_top.specs.Inner.Systems.{IsLoadable};
@@ -15,7 +16,8 @@ use crate::systems::{Configured, read_system};
 use crate::tree_prints::names_of;
 use std::alloc::{AllocError, Global};
 use tn_io::{Out, Store};
-use tn_replay::{ReplayFault, Schedule, ScheduleFault, read_schedule, replay};
+use tn_replay::{ReplayFault, replay};
+use tn_schedule::{Schedule, ScheduleFault, read_schedule};
 use tn_text::limits::Limit;
 use tn_text::{FileName, Name, next_line, tokens_of};
 
@@ -102,9 +104,8 @@ pub fn print_replay<O: Out>(
 ) -> Result<(), Refusal>
     requires loadable { IsLoadable input.now.read.system }
     requires entries { length input.now.read.system.images.items ≡ length input.now.read.system.network.sizes }
-    requires programs { length input.now.read.system.programs.items ≡ length input.now.read.system.network.sizes }
     requires names { input.now.names.items ≡ map (λ b. b.name) input.now.read.config.blocks.items }
-    requires blocks { length input.now.read.config.blocks.items ≡ length input.now.read.system.network.sizes }
+    requires known { IsKnownOf input.now.read.system.network (known_of (replayed_of input.now)) }
     requires within { AreWithin (length input.now.names.items) input.now.scheduled.schedule.lines.items }
     ensures replies { Replies (replay_answer file.now (replayed_of input.now)) (O.printed out.old) (O.printed out.new) result }
     ensures goes_on { O.goes_on out.old out.new }
@@ -113,7 +114,16 @@ pub fn print_replay<O: Out>(
     let schedule = &input.scheduled.schedule;
     let mut net = started_net(alloc, system, schedule.power)?;
     let (names, programs, images) = (&input.names, &system.programs, &system.images);
-    match replay(alloc, &mut net, names, programs, images, schedule, out) {
+    match replay(
+        alloc,
+        &mut net,
+        &system.network,
+        names,
+        programs,
+        images,
+        schedule,
+        out,
+    ) {
         Ok(_) => Ok(()),
         Err(ReplayFault::NotEnabled(i)) => Err(not_enabled(alloc, file, &input.scheduled, i)),
         Err(ReplayFault::Out) => Err(Refusal::Unprinted),

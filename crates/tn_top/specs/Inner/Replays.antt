@@ -2,8 +2,8 @@
 use Rattle.std.specs.Prelude.{◌≡◌, ⊤, ℕ, ◌^◌, ◌<◌, List, length, None, Result, OnOk, IfErr}
 use Rattle.tn_text.specs.Counts.{Rose}
 use Rattle.tn_io.specs.Outs.{Printed, told_then}
-use Rattle.tn_replay.specs.declared.acts.Line.{Line}
-use Rattle.tn_replay.specs.Schedules.{ScheduleState, schedule_of, ArePlaced}
+use Rattle.tn_schedule.specs.declared.acts.Line.{Line}
+use Rattle.tn_schedule.specs.Schedules.{ScheduleState, schedule_of, ArePlaced}
 use Rattle.tn_top.specs.declared.refusals.Refusal.{Refusal}
 use Rattle.tn_top.specs.declared.refusals.Refusal.TheVariants as refusal
 use Rattle.tn_top.specs.declared.replays.ReplayInput.{ReplayInput}

@@ -1,9 +1,7 @@
-use Rattle.std.proofs.Common.{length, refl, sym, ap, ◌∙◌}
+use Rattle.std.proofs.Common.{refl, sym, ◌∙◌}
 use Rattle.std.proofs.lemmas.List.{length-map}
 use Rattle.tn_text.proofs.Results.{of-error}
-use Rattle.tn_config.specs.Configurations.{block_of}
 use Rattle.tn_stream.specs.Images.{image_of}
-use Rattle.tn_sym.specs.ProgramStates.{program_of}
 use Rattle.tn_top.specs.declared.replays.ReplayInput.{ReplayInput}
 use Rattle.tn_top.specs.Plans.{then_plan}
 use Rattle.tn_top.specs.ReplayPlans.{ReplaySources, replay_sources_plan, replay_of, replay_answer, replay_printed}
@@ -12,7 +10,7 @@ use Rattle.tn_top.specs.Inner.Replays.{replayed_of}
 use Rattle.tn_top.proofs.BuildLaws.{replay-found}
 use Rattle.tn_top.proofs.EndLaws.{ends_stopped, ends_replied}
 use Rattle.tn_top.proofs.ReplayLaws.{said-prints}
-use Rattle.tn_top.proofs.SystemBoots.{system-images, system-programs, system-blocks}
+use Rattle.tn_top.proofs.SystemBoots.{system-images, system-known}
 use Rattle.tn_top.proofs.commands.replay.Goals as goal
 
 abbrev seen : ReplayInput → ReplaySources
@@ -48,17 +46,9 @@ print_replay-requires-clause-entries g c =
     c.in_ok-input.ensures.staged.ok in
     sym (length-map made.read.system.images.items image_of) ∙ system-images of.0 (seen made).system of.3
 
-pub print_replay-requires-clause-programs : goal.print_replay-requires-clause-programs
-print_replay-requires-clause-programs g c =
+pub print_replay-requires-clause-known : goal.print_replay-requires-clause-known
+print_replay-requires-clause-known g c =
     let made = c.in_ok-input.input in
     let of = replay-found (g.S.Store.stored c.args.store.now).files c.args.config.now c.args.schedule.now (seen made)
     c.in_ok-input.ensures.staged.ok in
-    sym (length-map made.read.system.programs.items program_of) ∙ system-programs of.0 (seen made).system of.3
-
-pub print_replay-requires-clause-blocks : goal.print_replay-requires-clause-blocks
-print_replay-requires-clause-blocks g c =
-    let made = c.in_ok-input.input in
-    let of = replay-found (g.S.Store.stored c.args.store.now).files c.args.config.now c.args.schedule.now (seen made)
-    c.in_ok-input.ensures.staged.ok in
-    sym (length-map made.read.config.blocks.items block_of)
-    ∙ (ap (λ k. length k.blocks) (sym of.2) ∙ system-blocks of.0 (seen made).system of.3)
+    system-known of.0 (seen made) of.2 of.3

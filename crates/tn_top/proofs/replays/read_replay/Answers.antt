@@ -4,7 +4,7 @@ use Rattle.tn_text.proofs.Results.{of-error}
 use Rattle.tn_config.specs.declared.configurations.Block.{Block}
 use Rattle.tn_config.specs.Configurations.{ConfigState}
 use Rattle.tn_system.specs.Systems.{SystemState}
-use Rattle.tn_replay.specs.Schedules.{ScheduleState}
+use Rattle.tn_schedule.specs.Schedules.{ScheduleState}
 use Rattle.tn_top.specs.declared.refusals.Refusal.TheVariants.{NoMemory}
 use Rattle.tn_top.specs.declared.replays.ReplayInput.{ReplayInput}
 use Rattle.tn_top.specs.declared.replays.Scheduled.{Scheduled}

@@ -1,6 +1,6 @@
 use Rattle.std.proofs.Common.{ℕ, List}
 use Rattle.tn_text.proofs.Results.{of-error}
-use Rattle.tn_replay.specs.Schedules.{ScheduleState}
+use Rattle.tn_schedule.specs.Schedules.{ScheduleState}
 use Rattle.tn_top.specs.declared.replays.Scheduled.{Scheduled}
 use Rattle.tn_top.specs.ReplayPlans.{schedule_in, with_text, schedule_plan}
 use Rattle.tn_top.specs.Inner.Stages.{Staged}

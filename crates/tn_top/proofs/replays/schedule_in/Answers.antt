@@ -1,5 +1,5 @@
 use Rattle.std.proofs.Common.{arith}
-use Rattle.tn_replay.specs.Schedules.{schedule_of}
+use Rattle.tn_schedule.specs.Schedules.{schedule_of}
 use Rattle.tn_top.proofs.ReplayLaws.{schedule-given, schedule-fault, schedule-long}
 use Rattle.tn_top.proofs.replays.schedule_in.Goals as goal
 
