@@ -15,7 +15,7 @@ const FOLLOWING: u32 = 0x8000_0078;
 const NOT_PROCESS: u32 = 0x8000_0000;
 
 /// What stands before an instruction, or after it.
-#[derive(Clone, Copy, Debug, PartialEq, Eq)]
+#[derive(Clone, Copy)]
 struct Stand {
     view: CpuView,
     life: Life,

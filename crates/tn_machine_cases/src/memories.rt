@@ -134,7 +134,15 @@ fn accesses<S: Space>(alloc: Global, space: &mut S, a: u32) -> Result<Vec<u8>, S
         if !text.is_empty() {
             text.push(' ')?;
         }
-        text.push_str(found.map_or("done", refusal))?;
+        text.push_str(outcome_of(found))?;
     }
     Ok(text.into_bytes())
+}
+
+/// Whether an access was made, or its refusal.
+fn outcome_of(found: Option<Touch>) -> &'static str {
+    match found {
+        Some(touch) => refusal(touch),
+        None => "done",
+    }
 }
