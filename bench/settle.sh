@@ -1,11 +1,11 @@
 #!/usr/bin/env bash
 # Times `settle` on the loading of a grid of 4 by 4 processors with 200,000 bytes of code each, from the
 # first pick and from the last, and tells the picks made in a second. What the same run takes without
-# the picks is subtracted. Run it once the program is built: `cd crates/tn_network_cases && rt run`.
+# the picks is subtracted. Run it once the program is built: `cd crates/tn_cases && rt run`.
 set -eu
 shopt -s inherit_errexit
 cd "$(dirname "$0")/.."
-cases=$PWD/crates/tn_network_cases/out/tn_network_cases
+cases=$PWD/crates/tn_cases/out/tn_cases
 [ -x "$cases" ] || { echo "no $cases: build it first"; exit 1; }
 work=$(mktemp -d)
 trap 'rm -rf "$work"' EXIT

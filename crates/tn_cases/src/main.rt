@@ -1,30 +1,18 @@
 //! Runs the tables of cases in data/, and prints how many lines each table has, and each line that
 //! does not give what its table says.
 //!
-//! A table is a file in data/ and a row of `run_case`.
+//! A table is a file in data/, a name in `TABLES`, and a row of the crate that runs its cases.
 #![tactic(auto)]
 
-mod codings;
-mod configs;
-mod faults;
-mod flat_sources;
-mod layouts;
-mod links;
-mod loader;
-mod module_texts;
-mod modules;
-mod operations;
-mod sources;
-mod stores;
-mod streams;
-mod texts;
+mod host_files;
 
 use std::alloc::Global;
 use std::io;
-use tn_tables::{Case, Line, Report, Stop, Tables, run_tables};
+use tn_tables::{Case, Report, Stop, Tables, run_tables};
 
 /// The tables, in the order of what is printed.
-const TABLES: [&str; 14] = [
+const TABLES: [&str; 26] = [
+    "host_files",
     "stores",
     "texts",
     "faults",
@@ -39,17 +27,31 @@ const TABLES: [&str; 14] = [
     "module_texts",
     "configs",
     "links",
+    "arithmetic",
+    "memories",
+    "instructions",
+    "processors",
+    "nodes",
+    "networks",
+    "loads",
+    "picks",
+    "commands",
+    "replays",
+    "listings",
 ];
 
 fn main(rt: HostRuntime) -> io::Result<()> {
-    run_tables(&rt, &TABLES, &ToolTables)
+    run_tables(&rt, &TABLES, &AllTables { rt: &rt })
 }
 
-/// The tables of the tools.
-struct ToolTables;
+/// The tables of every subject, on this host.
+#[derive(Drop)]
+struct AllTables<'a> {
+    rt: &'a HostRuntime,
+}
 
-impl Tables for ToolTables {
-    /// Runs a case of a table: line by line, where no line rests on those before.
+impl<'a> Tables for AllTables<'a> {
+    /// Runs a case by the crate of its table's subject.
     fn run_case(
         &self,
         alloc: Global,
@@ -58,37 +60,13 @@ impl Tables for ToolTables {
         report: &mut Report,
     ) -> Result<(), Stop> {
         match table {
-            "stores" => stores::run_case(alloc, case, report),
-            "layouts" => layouts::run_case(alloc, case, report),
-            "modules" => modules::run_case(alloc, case, report),
-            "configs" => configs::run_case(alloc, case, report),
-            "links" => links::run_case(alloc, case, report),
-            table => run_lines(alloc, table, case, report),
+            "host_files" => host_files::run_case(self.rt, case, report),
+            "arithmetic" | "memories" | "instructions" | "processors" | "nodes" | "networks" => {
+                tn_machine_cases::run_case(alloc, table, case, report)
+            }
+            "loads" | "picks" => tn_network_cases::run_case(alloc, case, report),
+            "commands" | "replays" | "listings" => tn_command_cases::run_case(alloc, case, report),
+            table => tn_tool_cases::run_case(alloc, table, case, report),
         }
-    }
-}
-
-/// Runs each line of a case by itself.
-fn run_lines(alloc: Global, table: &str, case: &Case<'_>, report: &mut Report) -> Result<(), Stop> {
-    for line in case.lines.iter() {
-        let came = answer(alloc, table, line);
-        report.answer(alloc, case.name, line, came)?;
-    }
-    Ok(())
-}
-
-/// What a line gives.
-fn answer(alloc: Global, table: &str, line: &Line<'_>) -> Result<Vec<u8>, Stop> {
-    match table {
-        "texts" => texts::answer(alloc, line),
-        "faults" => faults::answer(alloc, line),
-        "flat_sources" => flat_sources::answer(alloc, line),
-        "operations" => operations::answer(alloc, line),
-        "codings" => codings::answer(alloc, line),
-        "loader" => loader::answer(alloc, line),
-        "streams" => streams::answer(alloc, line),
-        "sources" => sources::answer(alloc, line),
-        "module_texts" => module_texts::answer(alloc, line),
-        _ => Err(Stop::BadCase),
     }
 }

@@ -27,6 +27,3 @@ pub use mem_store::MemStore;
 pub use outs::Out;
 pub use safe_store::SafeStore;
 pub use stores::Store;
-
-#[cfg(test)]
-mod tests;

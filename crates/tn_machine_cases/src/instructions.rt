@@ -64,16 +64,32 @@ pub fn run_case(alloc: Global, case: &Case<'_>, report: &mut Report) -> Result<(
 fn row(alloc: Global, line: &Line<'_>) -> Result<(Vec<u8>, Vec<u8>), Stop> {
     let (asked, after) = line.text.split_once(" =>").ok_or(Stop::BadCase)?;
     let (text, before) = asked.split_once('|').unwrap_or((asked, ""));
-    let mut cpu = prepared(alloc, before)?;
-    let (wanted, memory) = wanted(&cpu, before, after)?;
-    let outcome = executed(&mut cpu, text.trim(), before)?;
-    let came = Stand {
+    let mut cpu = Cpu::power_up(zeros(alloc)?, false, false);
+    prepare(&mut cpu, before)?;
+    match cpu.memory().copied() {
+        Ok(mut memory) => {
+            let wanted = wanted(&mut memory, before, after)?;
+            let (came, same) = came(&mut cpu, &memory, text.trim(), before)?;
+            Ok((shown(alloc, &wanted, true)?, shown(alloc, &came, same)?))
+        }
+        Err(_) => Err(Stop::NoMemory),
+    }
+}
+
+/// What stands after the instruction of a line, and whether memory is then another.
+fn came(
+    cpu: &mut Cpu<Memory>,
+    memory: &Memory,
+    text: &str,
+    before: &str,
+) -> Result<(Stand, bool), Stop> {
+    let outcome = executed(cpu, text, before)?;
+    let stand = Stand {
         view: cpu.view(),
         life: cpu.life(),
         outcome,
     };
-    let same = cpu.memory().bytes() == memory.bytes();
-    Ok((shown(alloc, &wanted, true)?, shown(alloc, &came, same)?))
+    Ok((stand, cpu.memory().bytes() == memory.bytes()))
 }
 
 fn shown(alloc: Global, stand: &Stand, same: bool) -> Result<Vec<u8>, Stop> {
@@ -118,10 +134,9 @@ fn field<'a>(text: &'a str, name: &str) -> Option<&'a str> {
     None
 }
 
-/// What is to stand after the instruction, and the memory that is to.
-fn wanted(cpu: &Cpu<Memory>, before: &str, after: &str) -> Result<(Stand, Memory), Stop> {
+/// What is to stand after the instruction. The memory before it becomes the one after.
+fn wanted(memory: &mut Memory, before: &str, after: &str) -> Result<Stand, Stop> {
     let mut stand = stand_before(before)?;
-    let mut memory = cpu.memory().copied().ok().ok_or(Stop::NoMemory)?;
     stand.view.iptr = FOLLOWING;
     for word in after.split_whitespace() {
         if word.starts_with('@') {
@@ -131,7 +146,7 @@ fn wanted(cpu: &Cpu<Memory>, before: &str, after: &str) -> Result<(Stand, Memory
             stand.set(word)?;
         }
     }
-    Ok((stand, memory))
+    Ok(stand)
 }
 
 /// The address and the word of `@300=5`.
@@ -150,15 +165,14 @@ fn stand_before(before: &str) -> Result<Stand, Stop> {
     Ok(stand)
 }
 
-/// A processor that stands as a line says, brought there by instructions of its own. Where it does
-/// not, the line is no row.
-fn prepared(alloc: Global, before: &str) -> Result<Cpu<Memory>, Stop> {
-    let mut cpu = Cpu::power_up(zeros(alloc)?, false, false);
+/// Brings a processor after power-up to where it stands as a line says, by instructions of its own.
+/// Where it comes to stand otherwise, the line is no row.
+fn prepare(cpu: &mut Cpu<Memory>, before: &str) -> Result<(), Stop> {
     cpu.boot(57);
     let stand = stand_before(before)?;
-    set_queue(&mut cpu, &stand.view)?;
-    set_flags(&mut cpu, &stand.view)?;
-    set_stack(&mut cpu, &stand.view)?;
+    set_queue(cpu, &stand.view)?;
+    set_flags(cpu, &stand.view)?;
+    set_stack(cpu, &stand.view)?;
     for word in before.split_whitespace() {
         if word.starts_with('@') {
             let (at, value) = stored(word)?;
@@ -166,7 +180,7 @@ fn prepared(alloc: Global, before: &str) -> Result<Cpu<Memory>, Stop> {
         }
     }
     if cpu.view() == stand.view && cpu.life() == stand.life {
-        Ok(cpu)
+        Ok(())
     } else {
         Err(Stop::BadCase)
     }

@@ -12,9 +12,8 @@ pub fn run_case(alloc: Global, case: &Case<'_>, report: &mut Report) -> Result<(
     match first.words.as_slice() {
         ["memory"] => run_memory(alloc, case, lines, report),
         ["guarded", from, to] => {
-            let (from, to) = (hexadecimal(from)?, hexadecimal(to)?);
-            let mut space = CodeFree::around(counted(alloc)?, from, to);
-            run_guarded(alloc, case, lines, &mut space, report)
+            let guard = (hexadecimal(from)?, hexadecimal(to)?);
+            run_guarded(alloc, case, lines, guard, report)
         }
         _ => Err(Stop::BadCase),
     }
@@ -40,31 +39,42 @@ fn run_memory(
 ) -> Result<(), Stop> {
     let mut memory = counted(alloc)?;
     for line in lines {
-        let came = match line.words.as_slice() {
-            ["size"] => Ok(memory.size().to_string(alloc)?.into_bytes()),
-            ["copied"] => copied(alloc, &memory),
-            words => answer(alloc, &mut memory, words),
-        };
+        let came = memory_answer(alloc, &mut memory, line.words.as_slice());
         report.answer(alloc, case.name, line, came)?;
     }
     Ok(())
+}
+
+/// What a memory answers, by itself or as a space.
+fn memory_answer(alloc: Global, memory: &mut Memory, words: &[&str]) -> Result<Vec<u8>, Stop> {
+    match words {
+        ["size"] => Ok(memory.size().to_string(alloc)?.into_bytes()),
+        ["copied"] => copied(alloc, memory),
+        words => answer(alloc, memory, words),
+    }
 }
 
 fn run_guarded(
     alloc: Global,
     case: &Case<'_>,
     lines: &[Line<'_>],
-    space: &mut CodeFree,
+    guard: (u32, u32),
     report: &mut Report,
 ) -> Result<(), Stop> {
+    let mut space = CodeFree::around(counted(alloc)?, guard.0, guard.1);
     for line in lines {
-        let came = match line.words.as_slice() {
-            ["beneath", address] => word_of(alloc, space.memory(), address),
-            words => answer(alloc, space, words),
-        };
+        let came = guarded_answer(alloc, &mut space, line.words.as_slice());
         report.answer(alloc, case.name, line, came)?;
     }
     Ok(())
+}
+
+/// What a guarded memory answers, or the memory beneath it.
+fn guarded_answer(alloc: Global, space: &mut CodeFree, words: &[&str]) -> Result<Vec<u8>, Stop> {
+    match words {
+        ["beneath", address] => word_of(alloc, space.memory(), address),
+        words => answer(alloc, space, words),
+    }
 }
 
 /// How many bytes a copy has, if it is equal.
@@ -93,18 +103,26 @@ fn answer<S: Space>(alloc: Global, space: &mut S, words: &[&str]) -> Result<Vec<
 
 fn block_answer<S: Space>(alloc: Global, space: &mut S, words: &[&str]) -> Result<Vec<u8>, Stop> {
     match words {
-        ["block", a, n] => done(alloc, space.block(hexadecimal(a)?, hexadecimal(n)?)),
+        ["block", a, n] => {
+            let (a, n) = two_of(a, n)?;
+            done(alloc, space.block(a, n))
+        }
         ["copy", from, to, n] => {
-            let (from, to) = (hexadecimal(from)?, hexadecimal(to)?);
-            done(alloc, space.copy(from, to, hexadecimal(n)?))
+            let ((from, to), n) = (two_of(from, to)?, hexadecimal(n)?);
+            done(alloc, space.copy(from, to, n))
         }
         ["fill", a, n, v] => {
-            let filled = fill(space, hexadecimal(a)?, hexadecimal(n)?, byte(v)?);
-            done(alloc, filled)
+            let ((a, n), v) = (two_of(a, n)?, byte(v)?);
+            done(alloc, fill(space, a, n, v))
         }
         ["accesses", a] => accesses(alloc, space, hexadecimal(a)?),
         _ => Err(Stop::BadCase),
     }
+}
+
+/// Two numbers in hexadecimal.
+fn two_of(one: &str, two: &str) -> Result<(u32, u32), Stop> {
+    Ok((hexadecimal(one)?, hexadecimal(two)?))
 }
 
 /// Stores a byte all over a block, if that is allowed.

@@ -19,12 +19,26 @@ pub fn run_case(alloc: Global, case: &Case<'_>, report: &mut Report) -> Result<(
     let mut node = powered_up(alloc)?;
     match first.words.as_slice() {
         ["node"] => run_lines(alloc, case, lines, &mut node, report),
-        ["guarded", from, to] => {
-            let (from, to) = (hexadecimal(from)?, hexadecimal(to)?);
-            let mut copy = node.guarded(from, to).ok().ok_or(Stop::NoMemory)?;
-            run_lines(alloc, case, lines, &mut copy, report)
-        }
+        ["guarded", from, to] => run_copy(alloc, case, lines, &node, (from, to), report),
         _ => Err(Stop::BadCase),
+    }
+}
+
+/// Runs lines of a copy of a node that stores into no byte from an address to another.
+fn run_copy(
+    alloc: Global,
+    case: &Case<'_>,
+    lines: &[Line<'_>],
+    node: &Node<Memory>,
+    guard: (&str, &str),
+    report: &mut Report,
+) -> Result<(), Stop>
+    requires { IsQuiet node.now }
+{
+    let (from, to) = (hexadecimal(guard.0)?, hexadecimal(guard.1)?);
+    match node.guarded(from, to) {
+        Ok(mut copy) => run_lines(alloc, case, lines, &mut copy, report),
+        Err(_) => Err(Stop::NoMemory),
     }
 }
 

@@ -2,7 +2,7 @@ use crate::executions::{CLOCK, Execution, execute, instruction, zeros};
 use crate::shown::{done, hexadecimal, registers, word_of};
 use std::alloc::Global;
 use tn_cpu::{Cpu, Life, Outcome};
-use tn_mem::Space;
+use tn_mem::{Memory, Space};
 use tn_tables::{Case, Line, Report, Stop, byte};
 
 /// The address of the instruction behind each one that is executed.
@@ -12,13 +12,25 @@ const FOLLOWING: u32 = 0x8000_0078;
 /// those of a copy of it.
 pub fn run_case(alloc: Global, case: &Case<'_>, report: &mut Report) -> Result<(), Stop> {
     let mut cpu = Cpu::power_up(zeros(alloc)?, false, false);
+    run_with(alloc, case, &mut cpu, report)
+}
+
+fn run_with(
+    alloc: Global,
+    case: &Case<'_>,
+    cpu: &mut Cpu<Memory>,
+    report: &mut Report,
+) -> Result<(), Stop> {
     for (k, line) in case.lines.iter().enumerate() {
         if let ["guarded", from, to] = line.words.as_slice() {
             let (from, to) = (hexadecimal(from)?, hexadecimal(to)?);
-            let mut copy = cpu.guarded(from, to).ok().ok_or(Stop::NoMemory)?;
-            return run_lines(alloc, case, &case.lines[k + 1..], &mut copy, report);
+            let lines = &case.lines[k + 1..];
+            return match cpu.guarded(from, to) {
+                Ok(mut copy) => run_lines(alloc, case, lines, &mut copy, report),
+                Err(_) => Err(Stop::NoMemory),
+            };
         }
-        report.answer(alloc, case.name, line, answer(alloc, &mut cpu, line))?;
+        report.answer(alloc, case.name, line, answer(alloc, cpu, line))?;
     }
     Ok(())
 }

@@ -21,7 +21,7 @@ pub struct Description<'a> {
 }
 
 /// What fills a memory: numbers that a seed gives, or a byte; and the Error and HaltOnError.
-#[derive(Clone, Copy, Debug)]
+#[derive(Clone, Copy)]
 pub struct Fill {
     pub noise: bool,
     pub seed: u32,

@@ -18,9 +18,19 @@ use tn_tables::{Case, Report, Stop, decimal, number, said};
 pub fn run_case(alloc: Global, case: &Case<'_>, report: &mut Report) -> Result<(), Stop> {
     let found = read_description(alloc, case)?;
     let mut setup = set_up(alloc, &found)?;
+    run_lines(alloc, case, &found.images, &mut setup, report)
+}
+
+fn run_lines(
+    alloc: Global,
+    case: &Case<'_>,
+    images: &[Image],
+    setup: &mut Setup,
+    report: &mut Report,
+) -> Result<(), Stop> {
     for line in case.lines.iter() {
         if line.wanted.is_some() {
-            let came = answer(alloc, &mut setup, &found.images, line.words.as_slice());
+            let came = answer(alloc, setup, images, line.words.as_slice());
             report.answer(alloc, case.name, line, came)?;
         }
     }

@@ -2,7 +2,7 @@ use Rattle.std.proofs.Common.{◌<◌, length, rules}
 use Rattle.tn_module.specs.declared.modules.Library.{Library}
 use Rattle.tn_module.proofs.Places.{all-grown, all-seen}
 use Rattle.tn_symbols.specs.Sources.{IsShortLibrary}
-use Rattle.tn_cases.proofs.links.are_short_libraries.Goals as goal
+use Rattle.tn_tool_cases.proofs.links.are_short_libraries.Goals as goal
 
 pub loop-library-preserved : goal.loop-library-preserved
 loop-library-preserved c = (

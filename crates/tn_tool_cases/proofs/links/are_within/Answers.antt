@@ -1,7 +1,7 @@
 use Rattle.std.proofs.Common.{ℕ, ◌<◌, arith}
 use Rattle.std.proofs.lemmas.List.Elements.{All-more}
 use Rattle.tn_module.proofs.Places.{all-seen}
-use Rattle.tn_cases.proofs.links.are_within.Goals as goal
+use Rattle.tn_tool_cases.proofs.links.are_within.Goals as goal
 
 pub loop-place-preserved : goal.loop-place-preserved
 loop-place-preserved c =

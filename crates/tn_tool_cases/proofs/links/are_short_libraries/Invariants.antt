@@ -1,7 +1,7 @@
 use Rattle.std.proofs.Common.{◌<◌, take, length, All}
 use Rattle.tn_module.specs.declared.modules.Library.{Library}
 use Rattle.tn_symbols.specs.Sources.{IsShortLibrary}
-use Rattle.tn_cases.proofs.links.are_short_libraries.Given as goal
+use Rattle.tn_tool_cases.proofs.links.are_short_libraries.Given as goal
 
 -- the libraries so far are short
 abbrev pub invariant-loop-library : goal.invariant-loop-library

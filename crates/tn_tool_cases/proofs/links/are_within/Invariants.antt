@@ -1,5 +1,5 @@
 use Rattle.std.proofs.Common.{ℕ, ◌<◌, take, All}
-use Rattle.tn_cases.proofs.links.are_within.Given as goal
+use Rattle.tn_tool_cases.proofs.links.are_within.Given as goal
 
 -- the places so far are among them
 abbrev pub invariant-loop-place : goal.invariant-loop-place

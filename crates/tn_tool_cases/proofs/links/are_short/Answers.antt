@@ -1,7 +1,7 @@
 use Rattle.std.proofs.Common.{rules}
 use Rattle.tn_module.specs.Modules.{IsShort}
 use Rattle.tn_module.proofs.Places.{all-grown, all-seen}
-use Rattle.tn_cases.proofs.links.are_short.Goals as goal
+use Rattle.tn_tool_cases.proofs.links.are_short.Goals as goal
 
 pub loop-module-preserved : goal.loop-module-preserved
 loop-module-preserved c =

@@ -1,6 +1,6 @@
 use Rattle.std.proofs.Common.{arith}
-use Rattle.tn_cases.proofs.Offers.{offered}
-use Rattle.tn_cases.proofs.links.is_offer.Goals as goal
+use Rattle.tn_tool_cases.proofs.Offers.{offered}
+use Rattle.tn_tool_cases.proofs.links.is_offer.Goals as goal
 
 pub returns-then-are_short : goal.returns-then-are_short
 returns-then-are_short c = λ ok.

@@ -57,8 +57,12 @@ fn safe_answer(alloc: Global, store: &mut SafeStore, line: &Line<'_>) -> Result<
     }
 }
 
-/// What a store answers to a call.
-fn store_answer<S: Store>(alloc: Global, store: &mut S, line: &Line<'_>) -> Result<Vec<u8>, Stop> {
+/// What a store answers to a call that a line asks for.
+pub fn store_answer<S: Store>(
+    alloc: Global,
+    store: &mut S,
+    line: &Line<'_>,
+) -> Result<Vec<u8>, Stop> {
     match line.words.as_slice() {
         ["get", name, limit] => get(alloc, store, name, decimal(limit)?),
         ["create", name] if name.len() <= 255 => match store.create(name) {

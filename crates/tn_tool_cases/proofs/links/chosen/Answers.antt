@@ -1,7 +1,7 @@
 use Rattle.std.proofs.Common.{rules}
 use Rattle.tn_symbols.specs.Sources.{offer}
-use Rattle.tn_cases.proofs.Offers.{linkable}
-use Rattle.tn_cases.proofs.links.chosen.Goals as goal
+use Rattle.tn_tool_cases.proofs.Offers.{linkable}
+use Rattle.tn_tool_cases.proofs.links.chosen.Goals as goal
 
 pub returns-in-Ok : goal.returns-in-Ok
 returns-in-Ok c =
