@@ -60,18 +60,7 @@ pub fn print_grid<O: Out>(
     ensures shows { Shows (grid_text size (system_of system.now)) (O.printed out.old) (O.printed out.new) result }
     ensures goes_on { O.goes_on out.old out.new }
 {
-    let mut net = started_net(alloc, system, (0, false, false))?;
-    let bytes = net.host_left();
-    let load = settle_net(&mut net);
-    net.release();
-    let run = settle_net(&mut net);
-    let summary = Summary {
-        size,
-        processors: system.network.count(),
-        bytes,
-        load,
-        run,
-    };
+    let summary = grid_summary(alloc, size, system)?;
     match print_summary(&summary, out) {
         Ok(()) => Ok(()),
         Err(ListFault::Out) => Err(Refusal::Unprinted),
@@ -79,9 +68,29 @@ pub fn print_grid<O: Out>(
     }
 }
 
+/// Loads the network of a grid's system, and runs it.
+fn grid_summary(alloc: Global, size: u32, system: &System) -> Result<Summary, AllocError>
+    requires loadable { IsLoadable system.now }
+    requires entries { length system.now.images.items ≡ length system.now.network.sizes }
+    ensures { IfOk result (λ s. summary_text s.size s.processors s.bytes s.load s.run ≡ grid_text size (system_of system.now)) }
+{
+    let mut net = started_net(alloc, system, (0, false, false))?;
+    let bytes = net.host_left();
+    let load = settle_net(&mut net);
+    net.release();
+    let run = settle_net(&mut net);
+    Ok(Summary {
+        size,
+        processors: system.network.count(),
+        bytes,
+        load,
+        run,
+    })
+}
+
 /// What a grid comes to: how large it is, how many processors it has, how many bytes its stream has, and
 /// for its loading and its run the steps and whether the network came to rest.
-#[derive(Clone, Copy, Debug)]
+#[derive(Clone, Copy)]
 pub struct Summary {
     pub size: u32,
     pub processors: u32,

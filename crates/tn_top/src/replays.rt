@@ -8,6 +8,7 @@ ghost use Rattle.tn_top.specs.ReplayPlans.{line_of, known_of, replay_answer};
 ghost use Rattle.tn_top.specs.Inner.Stages.{Staged, Makes};
 ghost use Rattle.tn_top.specs.Inner.Replays.{scheduled, replayed_of, AreWithin, IsStepRefusal, Replies};
 ghost use Rattle.tn_top.specs.Inner.Systems.{IsLoadable};
+ghost use Rattle.tn_top.specs.SystemNets.{system_net};
 
 use crate::reading::read_file;
 use crate::refusals::Refusal;
@@ -16,6 +17,7 @@ use crate::systems::{Configured, read_system};
 use crate::tree_prints::names_of;
 use std::alloc::{AllocError, Global};
 use tn_io::{Out, Store};
+use tn_network::Net;
 use tn_replay::{ReplayFault, replay};
 use tn_schedule::{Schedule, ScheduleFault, read_schedule};
 use tn_text::limits::Limit;
@@ -110,13 +112,32 @@ pub fn print_replay<O: Out>(
     ensures replies { Replies (replay_answer file.now (replayed_of input.now)) (O.printed out.old) (O.printed out.new) result }
     ensures goes_on { O.goes_on out.old out.new }
 {
+    let power = input.scheduled.schedule.power;
+    let mut net = started_net(alloc, &input.read.system, power)?;
+    print_replay_in(alloc, file, input, &mut net, out)
+}
+
+/// The same, in the network of the system after power-up.
+fn print_replay_in<O: Out>(
+    alloc: Global,
+    file: &FileName,
+    input: &ReplayInput,
+    net: &mut Net,
+    out: &mut O,
+) -> Result<(), Refusal>
+    requires started { net.old ≡ system_net (replayed_of input.now).schedule.power (replayed_of input.now).system }
+    requires names { input.now.names.items ≡ map (λ b. b.name) input.now.read.config.blocks.items }
+    requires known { IsKnownOf input.now.read.system.network (known_of (replayed_of input.now)) }
+    requires within { AreWithin (length input.now.names.items) input.now.scheduled.schedule.lines.items }
+    ensures replies { Replies (replay_answer file.now (replayed_of input.now)) (O.printed out.old) (O.printed out.new) result }
+    ensures goes_on { O.goes_on out.old out.new }
+{
     let system = &input.read.system;
     let schedule = &input.scheduled.schedule;
-    let mut net = started_net(alloc, system, schedule.power)?;
     let (names, programs, images) = (&input.names, &system.programs, &system.images);
     match replay(
         alloc,
-        &mut net,
+        net,
         &system.network,
         names,
         programs,
