@@ -3,7 +3,7 @@ ghost use Rattle.std.specs.Str.{bytes_eq};
 ghost use Rattle.tn_asm.specs.Directives.{directive_word, directive_named};
 
 /// A first word of a statement that is no mnemonic.
-#[derive(Clone, Copy, Debug, PartialEq, Eq)]
+#[derive(Clone, Copy)]
 pub enum Directive {
     Module,
     Import,

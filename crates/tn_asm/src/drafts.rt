@@ -13,7 +13,7 @@ use tn_module::{Cell, Import, Item, Place, RawModule};
 use tn_text::{Cause, Detail, FaultCode, Lack, Name, ReadFault, next_line, read_tokens};
 
 /// The line of each import, export, item and cell.
-#[derive(Debug, Drop)]
+#[derive(Drop)]
 pub(crate) struct PlaceLines {
     pub imports: Vec<u32>,
     pub exports: Vec<u32>,
@@ -37,14 +37,14 @@ impl PlaceLines {
 }
 
 /// The parts of a module, each with its line.
-#[derive(Debug, Drop)]
+#[derive(Drop)]
 pub(crate) struct Source {
     pub raw: RawModule,
     pub lines: PlaceLines,
 }
 
 /// What the lines of a source have said so far, and the number of the last.
-#[derive(Debug, Drop)]
+#[derive(Drop)]
 pub(crate) struct Draft {
     pub line: u32,
     pub section: Section,

@@ -7,7 +7,7 @@ use tn_isa::{Fun, Mnemonic, Op, mnemonic_spelled};
 use tn_text::{Cause, FaultCode};
 
 /// The form of a statement.
-#[derive(Clone, Copy, Debug, PartialEq, Eq)]
+#[derive(Clone, Copy)]
 pub enum Form {
     Module,
     Import,
@@ -19,7 +19,7 @@ pub enum Form {
 }
 
 /// The form of a statement of code.
-#[derive(Clone, Copy, Debug, PartialEq, Eq)]
+#[derive(Clone, Copy)]
 pub enum ItemForm {
     Function(Fun),
     Operation(Op),
@@ -27,7 +27,7 @@ pub enum ItemForm {
 }
 
 /// The form of a statement of static data.
-#[derive(Clone, Copy, Debug, PartialEq, Eq)]
+#[derive(Clone, Copy)]
 pub enum CellForm {
     Word,
     Address,

@@ -4,7 +4,7 @@ use tn_isa::Fun;
 
 /// An instruction: a function with its operand. An operation is the function `opr` with the
 /// operation's code as operand.
-#[derive(Clone, Copy, Debug, PartialEq, Eq)]
+#[derive(Clone, Copy)]
 pub struct Instruction {
     pub fun: Fun,
     pub operand: i32,

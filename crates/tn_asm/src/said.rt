@@ -23,7 +23,7 @@ use tn_text::{Cause, FaultCode, begins_number, name_at, number_at};
 const SPACE_LIMIT: u32 = 1_048_576;
 
 /// What the tokens of a line say.
-#[derive(Clone, Copy, Debug, PartialEq, Eq)]
+#[derive(Clone, Copy)]
 pub enum Said {
     Nothing,
     /// A statement, or a label alone.

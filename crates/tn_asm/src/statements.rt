@@ -2,7 +2,7 @@ use tn_module::{Cell, Import, Item};
 use tn_text::Name;
 
 /// Where a line of a source stands.
-#[derive(Clone, Copy, Debug, PartialEq, Eq)]
+#[derive(Clone, Copy)]
 pub enum Section {
     /// Before the line that names the module.
     Head,
@@ -11,7 +11,7 @@ pub enum Section {
 }
 
 /// What a line of a source says. A label is an item or a cell.
-#[derive(Clone, Copy, Debug, PartialEq, Eq)]
+#[derive(Clone, Copy)]
 pub enum Statement {
     Module(Name),
     Import(Import),

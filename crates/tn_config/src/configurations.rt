@@ -2,7 +2,7 @@ use tn_text::{FileName, Name};
 
 /// What a configuration says of one processor. Addresses are words of the T425, the lowest of which
 /// is #80000000.
-#[derive(Debug, Drop)]
+#[derive(Drop)]
 pub struct Block {
     /// The name of the processor.
     pub name: Name,
@@ -31,7 +31,7 @@ pub struct Block {
 }
 
 /// The lines of a block, numbered from 1, that later faults are told at.
-#[derive(Clone, Copy, Debug, PartialEq, Eq)]
+#[derive(Clone, Copy)]
 pub struct BlockLines {
     pub processor: u32,
     pub code: u32,
@@ -41,7 +41,7 @@ pub struct BlockLines {
 }
 
 /// The end of a link that the host has: a processor's name, the number of the link, and the line.
-#[derive(Clone, Copy, Debug)]
+#[derive(Clone, Copy)]
 pub struct HostLine {
     pub name: Name,
     pub link: u8,
@@ -49,7 +49,7 @@ pub struct HostLine {
 }
 
 /// Two ends that are wired to each other: names, numbers of links, and the line.
-#[derive(Clone, Copy, Debug)]
+#[derive(Clone, Copy)]
 pub struct WireLine {
     pub one: Name,
     pub one_link: u8,
@@ -59,7 +59,7 @@ pub struct WireLine {
 }
 
 /// A configuration.
-#[derive(Debug, Drop)]
+#[derive(Drop)]
 pub struct Config {
     /// The processors in order.
     pub blocks: Vec<Block>,

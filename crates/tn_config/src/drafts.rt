@@ -11,7 +11,7 @@ use std::alloc::{AllocError, Global};
 use tn_text::{Cause, Detail, FaultCode, FileName, Lack, Name};
 
 /// What the lines of a block have said, each with its line.
-#[derive(Debug, Drop)]
+#[derive(Drop)]
 pub struct Draft {
     pub line: u32,
     pub name: Name,

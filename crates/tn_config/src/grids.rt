@@ -25,7 +25,7 @@ const COUNTS: u32 = 2000;
 
 /// The texts of a grid: the configuration `grid.cfg`, and the files `worker.tmod` and `fin.tlib` that it
 /// names.
-#[derive(Debug, Drop)]
+#[derive(Drop)]
 pub struct GridTexts {
     pub config: Vec<u8>,
     pub worker: Vec<u8>,

@@ -21,7 +21,7 @@ use std::alloc::Global;
 use tn_text::{Cause, FaultCode, Lack, ReadFault, next_line, read_tokens};
 
 /// What the lines have said so far: how many they are, and what is to become a configuration.
-#[derive(Debug, Drop)]
+#[derive(Drop)]
 pub struct Reader {
     pub lines: u32,
     pub blocks: Vec<Block>,

@@ -8,7 +8,7 @@ use crate::places::{address_at, argument_at, count_at, link_at, size_at, whole_n
 use tn_text::{Cause, FaultCode, FileName, Name, file_name_at};
 
 /// What a line of a block says of its processor.
-#[derive(Debug, Drop)]
+#[derive(Drop)]
 pub enum Setting {
     /// The address of the code.
     Code(u32),
@@ -27,7 +27,7 @@ pub enum Setting {
 }
 
 /// What a line says.
-#[derive(Debug, Drop)]
+#[derive(Drop)]
 pub enum Statement {
     /// A block begins: name of the processor, size of its memory.
     Processor(Name, u32),

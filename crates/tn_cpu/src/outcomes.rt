@@ -1,5 +1,5 @@
 /// Why a processor stopped. That it stops in these cases is this project's rule.
-#[derive(Clone, Copy, Debug, PartialEq, Eq, Hash)]
+#[derive(Clone, Copy, Debug, PartialEq, Eq)]
 pub enum Why {
     /// An instruction read an undefined register, or needed an undefined queue.
     Undefined,
@@ -17,7 +17,7 @@ pub enum Why {
 }
 
 /// Whether a processor runs.
-#[derive(Clone, Copy, Debug, PartialEq, Eq, Hash)]
+#[derive(Clone, Copy, Debug, PartialEq, Eq)]
 pub enum Life {
     /// It executes the current process.
     Running,
@@ -28,7 +28,7 @@ pub enum Life {
 }
 
 /// What a byte or an instruction did.
-#[derive(Clone, Copy, Debug, PartialEq, Eq, Hash)]
+#[derive(Clone, Copy, Debug)]
 pub enum Outcome {
     /// A prefix byte changed the operand register.
     Prefix,
@@ -43,7 +43,7 @@ pub enum Outcome {
 }
 
 /// What an engine of a link is to do.
-#[derive(Clone, Copy, Debug, PartialEq, Eq, Hash)]
+#[derive(Clone, Copy, Debug)]
 pub struct Transfer {
     /// The link, 0 to 3.
     pub link: u8,

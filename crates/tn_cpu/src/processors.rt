@@ -10,11 +10,11 @@ use tn_mem::{CodeFree, Memory, Space, Touch};
 use tn_word::MEM_START;
 
 /// Memory cannot be had.
-#[derive(Clone, Copy, Debug, PartialEq, Eq, Hash)]
+#[derive(Clone, Copy)]
 pub struct NoMemory;
 
 /// A T425 over a space of addresses, without its links.
-#[derive(Debug, Drop)]
+#[derive(Drop)]
 pub struct Cpu<M: Space> {
     pub(crate) memory: M,
     pub(crate) registers: CpuView,
@@ -22,7 +22,7 @@ pub struct Cpu<M: Space> {
 }
 
 /// What a processor's registers hold.
-#[derive(Clone, Copy, Debug, PartialEq, Eq, Hash)]
+#[derive(Clone, Copy, PartialEq, Eq)]
 pub struct CpuView {
     /// Areg.
     pub a: Reg,

@@ -1,5 +1,5 @@
 /// A register that holds a word, or whose value nothing defines.
-#[derive(Clone, Copy, Debug, PartialEq, Eq, Hash)]
+#[derive(Clone, Copy, PartialEq, Eq)]
 pub enum Reg {
     /// No row of the guide's tables, or of this project, says which word stands here.
     Undefined,

@@ -18,7 +18,6 @@ ghost use Rattle.tn_stream.specs.PlainImages.{IsPlain};
 use crate::checks::{no_entry, region_fault};
 use crate::segments::{NoMemory, segments};
 use std::alloc::Global;
-use thiserror::Error;
 use tn_config::Block;
 use tn_link::{LinkFault, Linked, link};
 use tn_module::Kind;
@@ -34,15 +33,12 @@ pub struct Built {
 }
 
 /// Why there is no image.
-#[derive(Clone, Copy, Debug, PartialEq, Eq, Error)]
+#[derive(Clone, Copy)]
 pub enum ImageFault {
     /// The first check that failed, at its line of the configuration.
-    #[error("a check of the image failed")]
     Fault(Fault),
     /// A count of what was to be linked is above its limit. It is never `NoMemory`.
-    #[error("{0}")]
     Link(LinkFault),
-    #[error("no memory")]
     NoMemory,
 }
 

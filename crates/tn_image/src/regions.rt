@@ -8,7 +8,7 @@ use tn_text::{Part, Region};
 use tn_word::{LOAD_BASE, MOST_NEG};
 
 /// A region in plain numbers: its first address and the address after its last.
-#[derive(Clone, Copy, Debug)]
+#[derive(Clone, Copy)]
 pub(crate) struct Extent {
     pub(crate) part: Part,
     pub(crate) from: u128,

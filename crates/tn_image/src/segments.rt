@@ -9,7 +9,7 @@ use tn_stream::Segment;
 use tn_word::word_bytes;
 
 /// Memory cannot be had.
-#[derive(Clone, Copy, Debug, PartialEq, Eq)]
+#[derive(Clone, Copy)]
 pub(crate) struct NoMemory;
 
 impl<T: Drop> From<AllocFailed<T>> for NoMemory {

@@ -4,7 +4,7 @@ ghost use Rattle.tn_text.specs.Counts.{Rose};
 use thiserror::Error;
 
 /// Why a store did not read a file.
-#[derive(Clone, Copy, Debug, PartialEq, Eq, Error)]
+#[derive(Clone, Copy, Debug, Error)]
 pub enum GetFault {
     /// The file is not there, or the device failed.
     #[error("the file cannot be read")]
@@ -17,7 +17,7 @@ pub enum GetFault {
 }
 
 /// Why a store did not create, write or close a file.
-#[derive(Clone, Copy, Debug, PartialEq, Eq, Error)]
+#[derive(Clone, Copy, Debug, Error)]
 pub enum PutFault {
     /// No file is open, or the device failed.
     #[error("the file cannot be written")]
@@ -27,7 +27,7 @@ pub enum PutFault {
 }
 
 /// Which refusal of a store came last to an output over its open file.
-#[derive(Clone, Copy, Debug, PartialEq, Eq)]
+#[derive(Clone, Copy)]
 pub enum PutKind {
     /// No file was open, or the device failed.
     Failed,
@@ -36,7 +36,7 @@ pub enum PutKind {
 }
 
 /// An output did not take all of a piece.
-#[derive(Clone, Copy, Debug, PartialEq, Eq, Error)]
+#[derive(Clone, Copy, Debug, Error)]
 #[error("the output cannot be written")]
 pub struct OutFault;
 

@@ -3,7 +3,7 @@ ghost use Rattle.tn_isa.specs.Functions.{code_of, function_at};
 
 /// The function of an instruction byte, which its high four bits name. The guide's table lists
 /// the functions in this order.
-#[derive(Clone, Copy, Debug, PartialEq, Eq, Hash)]
+#[derive(Clone, Copy, PartialEq, Eq)]
 pub enum Fun {
     J,
     Ldlp,

@@ -6,7 +6,7 @@ use crate::functions::Fun;
 use crate::operations::Op;
 
 /// An instruction as a source names it.
-#[derive(Clone, Copy, Debug, PartialEq, Eq, Hash)]
+#[derive(Clone, Copy)]
 pub enum Mnemonic {
     /// A function with an operand of its own. A source names each of them but `pfix`, `nfix` and
     /// `opr`, whose bytes the coding of an operand makes.

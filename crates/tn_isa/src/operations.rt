@@ -3,7 +3,7 @@ ghost use Rattle.tn_isa.specs.Operations.{operations, operation_code, operation_
 
 /// An operation, which the operand of the function `opr` names by its code. They stand in the
 /// order of their codes in the guide's table.
-#[derive(Clone, Copy, Debug, PartialEq, Eq, Hash)]
+#[derive(Clone, Copy, PartialEq, Eq)]
 pub enum Op {
     Rev,
     Lb,

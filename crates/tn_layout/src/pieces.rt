@@ -6,7 +6,7 @@ use thiserror::Error;
 
 /// A piece of code. A place is the index of the piece that starts there, and the number of pieces
 /// is the place where the last one ends.
-#[derive(Clone, Copy, Debug, PartialEq, Eq)]
+#[derive(Clone, Copy)]
 pub enum Piece {
     /// So many bytes.
     Fixed(u8),
@@ -17,7 +17,7 @@ pub enum Piece {
 }
 
 /// Why pieces got no sizes.
-#[derive(Clone, Copy, Debug, PartialEq, Eq, Error)]
+#[derive(Clone, Copy, Debug, Error)]
 pub enum LayoutFault {
     /// The total of the least sizes, which is above the limit.
     #[error("the code has {0} bytes")]

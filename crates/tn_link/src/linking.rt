@@ -34,7 +34,7 @@ use tn_text::Name;
 use tn_text::limits::{CELL_LIMIT, ITEM_LIMIT};
 
 /// Memory cannot be had.
-#[derive(Clone, Copy, Debug, PartialEq, Eq)]
+#[derive(Clone, Copy)]
 pub(crate) struct NoMemory;
 
 impl<T: Drop> From<AllocFailed<T>> for NoMemory {
@@ -51,7 +51,7 @@ impl From<AllocError> for NoMemory {
 
 /// Where an item or a cell lies: the place of its module in the chosen list, its index in the
 /// module, its address, and how many bytes it has there.
-#[derive(Clone, Copy, Debug, PartialEq, Eq)]
+#[derive(Clone, Copy)]
 pub struct Placed {
     pub module: u32,
     pub item: u32,
@@ -61,7 +61,7 @@ pub struct Placed {
 
 /// The linked modules of a processor: code and cells, the addresses at which they begin, and the
 /// places of all items and of all cells, in their order. A label has no bytes.
-#[derive(Debug, Drop)]
+#[derive(Drop)]
 pub struct Linked {
     pub code_base: u32,
     pub code: Vec<u8>,
@@ -72,7 +72,7 @@ pub struct Linked {
 }
 
 /// Why modules were not linked: the first count of these that is above its limit.
-#[derive(Clone, Copy, Debug, PartialEq, Eq, Error)]
+#[derive(Clone, Copy, Debug, Error)]
 pub enum LinkFault {
     /// So many items.
     #[error("the program has {0} items")]

@@ -17,7 +17,7 @@ use tn_text::Name;
 use tn_word::MOST_NEG;
 
 /// The operand of an instruction, with places of the program in place of names.
-#[derive(Clone, Copy, Debug, PartialEq, Eq)]
+#[derive(Clone, Copy)]
 pub(crate) enum Reach {
     Number(i32),
     /// The way to a place, from the end of the instruction.
@@ -27,7 +27,7 @@ pub(crate) enum Reach {
 }
 
 /// An item of a program.
-#[derive(Clone, Copy, Debug, PartialEq, Eq)]
+#[derive(Clone, Copy)]
 pub(crate) enum Element {
     Instruction(Fun, Reach),
     Byte(u8),

@@ -20,7 +20,7 @@ use tn_text::Name;
 
 /// Where a module begins: the place of its first item in the program, and how far its first cell
 /// lies behind the cell base.
-#[derive(Clone, Copy, Debug, PartialEq, Eq)]
+#[derive(Clone, Copy)]
 pub(crate) struct Start {
     pub(crate) item: u32,
     pub(crate) cell: u32,
@@ -28,7 +28,7 @@ pub(crate) struct Start {
 
 /// What a name stands for: the item at a place of the program, or the cell at a distance from the
 /// cell base.
-#[derive(Clone, Copy, Debug, PartialEq, Eq)]
+#[derive(Clone, Copy)]
 pub(crate) struct Target {
     pub(crate) kind: Kind,
     pub(crate) place: u32,

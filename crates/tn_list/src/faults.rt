@@ -2,11 +2,10 @@ ghost use Rattle.std.specs.Prelude.{◌≡◌};
 ghost use Rattle.tn_list.specs.declared.faults.ListFault.TheVariants.{Out, NoMemory};
 
 use std::alloc::{AllocError, AllocFailed};
-use thiserror::Error;
 use tn_text::PutRefused;
 
 /// Memory cannot be had.
-#[derive(Clone, Copy, Debug, PartialEq, Eq)]
+#[derive(Clone, Copy)]
 pub(crate) struct NoMemory;
 
 impl<T: Drop> From<AllocFailed<T>> for NoMemory {
@@ -22,12 +21,10 @@ impl From<AllocError> for NoMemory {
 }
 
 /// Why a text was not printed.
-#[derive(Clone, Copy, Debug, PartialEq, Eq, Error)]
+#[derive(Clone, Copy)]
 pub enum ListFault {
     /// The output did not take all of it.
-    #[error("the text cannot be printed")]
     Out,
-    #[error("no memory")]
     NoMemory,
 }
 

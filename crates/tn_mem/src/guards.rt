@@ -11,7 +11,7 @@ use std::marker::Model;
 
 /// A memory in which no access may meet the region from one address up to, but not including,
 /// another. Such an access is refused as Code, unless the memory refuses it as Outside.
-#[derive(Debug, Drop)]
+#[derive(Drop)]
 pub struct CodeFree {
     memory: Memory,
     from: u32,

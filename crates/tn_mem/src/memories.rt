@@ -14,12 +14,12 @@ const MOST_NEG: u32 = 0x8000_0000;
 const LOWEST: u32 = 0x8000_0024;
 
 /// Memory cannot be had.
-#[derive(Clone, Copy, Debug, PartialEq, Eq, Hash)]
+#[derive(Clone, Copy)]
 pub struct NoMemory;
 
 /// The memory of a processor, of [`MEMORY_SIZE_LEAST`](crate::MEMORY_SIZE_LEAST) to
 /// [`MEMORY_SIZE_MOST`](crate::MEMORY_SIZE_MOST) bytes, whole words of them.
-#[derive(Debug, Drop)]
+#[derive(Drop)]
 pub struct Memory {
     bytes: Vec<u8>,
 }

@@ -1,5 +1,5 @@
 /// Why an access is refused.
-#[derive(Clone, Copy, Debug, PartialEq, Eq, Hash)]
+#[derive(Clone, Copy)]
 pub enum Touch {
     /// The access is unaligned, or not wholly inside the memory above word 8.
     Outside,

@@ -16,7 +16,7 @@ use tn_module::{Cell, Import, Item, NoMemory, RawModule};
 use tn_text::{Cause, Detail, FaultCode, Lack, Name, ReadFault};
 
 /// What was read of a module text so far, and where its next line stands.
-#[derive(Debug, Drop)]
+#[derive(Drop)]
 pub(crate) struct Draft {
     pub section: Section,
     pub name: Option<Name>,

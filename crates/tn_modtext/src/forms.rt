@@ -3,7 +3,7 @@ ghost use Rattle.std.specs.Str.{bytes_eq};
 ghost use Rattle.tn_modtext.specs.Forms.{item_word, cell_word, form_word, stands, form_at, section_after};
 
 /// Where the next line of a module text stands.
-#[derive(Clone, Copy, Debug, PartialEq, Eq)]
+#[derive(Clone, Copy)]
 pub enum Section {
     /// At the first line.
     Head,
@@ -22,7 +22,7 @@ pub enum Section {
 }
 
 /// The form of a line of a module text.
-#[derive(Clone, Copy, Debug, PartialEq, Eq)]
+#[derive(Clone, Copy)]
 pub enum Form {
     Head,
     Name,
@@ -36,7 +36,7 @@ pub enum Form {
 }
 
 /// The form of a line of code.
-#[derive(Clone, Copy, Debug, PartialEq, Eq)]
+#[derive(Clone, Copy)]
 pub enum ItemForm {
     Function,
     Operation,
@@ -45,7 +45,7 @@ pub enum ItemForm {
 }
 
 /// The form of a line of static data.
-#[derive(Clone, Copy, Debug, PartialEq, Eq)]
+#[derive(Clone, Copy)]
 pub enum CellForm {
     Word,
     Address,

@@ -18,7 +18,7 @@ use tn_module::{NoMemory, RawModule};
 use tn_text::{Cause, Detail, FaultCode, Lack, ReadFault};
 
 /// What was read of a library text so far, and where its next line stands.
-#[derive(Debug, Drop)]
+#[derive(Drop)]
 pub(crate) struct LibraryDraft {
     pub section: LibrarySection,
     pub modules: Vec<RawModule>,

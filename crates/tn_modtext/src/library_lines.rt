@@ -7,7 +7,7 @@ use crate::said::line_at;
 use tn_text::{Cause, FaultCode};
 
 /// Where the next line of a library text stands.
-#[derive(Clone, Copy, Debug, PartialEq, Eq)]
+#[derive(Clone, Copy)]
 pub enum LibrarySection {
     /// At the first line.
     Head,
@@ -20,7 +20,7 @@ pub enum LibrarySection {
 }
 
 /// A line of a library text.
-#[derive(Clone, Copy, Debug, PartialEq, Eq)]
+#[derive(Clone, Copy)]
 pub enum LibraryLine {
     Head,
     Module(Line),

@@ -6,7 +6,7 @@ use tn_module::{Cell, Import, Item};
 use tn_text::Name;
 
 /// A line of a module text.
-#[derive(Clone, Copy, Debug, PartialEq, Eq)]
+#[derive(Clone, Copy)]
 pub enum Line {
     Head,
     Name(Name),

@@ -2,7 +2,7 @@ use crate::modules::NoMemory;
 use tn_text::{Detail, FaultCode};
 
 /// A place in a module, by its index in the list.
-#[derive(Clone, Copy, Debug, PartialEq, Eq)]
+#[derive(Clone, Copy)]
 pub enum Place {
     Import(u32),
     Export(u32),
@@ -11,7 +11,7 @@ pub enum Place {
 }
 
 /// What is wrong with a module, and where.
-#[derive(Clone, Copy, Debug, PartialEq, Eq)]
+#[derive(Clone, Copy)]
 pub struct ModuleFault {
     pub code: FaultCode,
     pub place: Place,
@@ -19,7 +19,7 @@ pub struct ModuleFault {
 }
 
 /// Why a module cannot be had: it has a fault, or there is no memory.
-#[derive(Clone, Copy, Debug, PartialEq, Eq)]
+#[derive(Clone, Copy)]
 pub enum CheckFault {
     Fault(ModuleFault),
     NoMemory,

@@ -12,7 +12,7 @@ use tn_isa::{Fun, Op};
 use tn_text::Name;
 
 /// Memory cannot be had.
-#[derive(Clone, Copy, Debug, PartialEq, Eq, Hash)]
+#[derive(Clone, Copy)]
 pub struct NoMemory;
 
 impl<T: Drop> From<AllocFailed<T>> for NoMemory {
@@ -28,21 +28,21 @@ impl From<AllocError> for NoMemory {
 }
 
 /// What a name stands for: an address of code, or one of static data.
-#[derive(Clone, Copy, Debug, PartialEq, Eq, Hash)]
+#[derive(Clone, Copy, PartialEq, Eq)]
 pub enum Kind {
     Code,
     Cell,
 }
 
 /// A name that another module defines.
-#[derive(Clone, Copy, Debug, PartialEq, Eq)]
+#[derive(Clone, Copy, PartialEq, Eq)]
 pub struct Import {
     pub kind: Kind,
     pub name: Name,
 }
 
 /// The operand of a direct function.
-#[derive(Clone, Copy, Debug, PartialEq, Eq)]
+#[derive(Clone, Copy, PartialEq, Eq)]
 pub enum Operand {
     Number(i32),
     /// The way to a name, from the end of the instruction.
@@ -54,7 +54,7 @@ pub enum Operand {
 }
 
 /// An element of a module's code.
-#[derive(Clone, Copy, Debug, PartialEq, Eq)]
+#[derive(Clone, Copy, PartialEq, Eq)]
 pub enum Item {
     Direct(Fun, Operand),
     Plain(Op),
@@ -64,7 +64,7 @@ pub enum Item {
 
 /// An element of a module's static data. Words and addresses take 4 bytes. A space takes as many as
 /// it says, zeros, and `Align` those up to the next multiple of 4 from the start of the cells.
-#[derive(Clone, Copy, Debug, PartialEq, Eq)]
+#[derive(Clone, Copy, PartialEq, Eq)]
 pub enum Cell {
     Word(u32),
     Address(Name),
@@ -75,7 +75,7 @@ pub enum Cell {
 }
 
 /// The parts of a module, which need not go together.
-#[derive(Debug, Drop, PartialEq, Eq)]
+#[derive(Drop, PartialEq, Eq)]
 pub struct RawModule {
     pub name: Name,
     pub imports: Vec<Import>,
@@ -111,7 +111,7 @@ impl RawModule {
 ///   of the module's cells.
 ///
 /// A name that is defined more than once counts as each thing that it is defined as.
-#[derive(Debug, Drop)]
+#[derive(Drop)]
 pub struct Module {
     raw: RawModule,
 }
@@ -168,7 +168,7 @@ impl Module {
 }
 
 /// Modules that are chosen where others need their names.
-#[derive(Debug, Drop)]
+#[derive(Drop)]
 pub struct Library {
     pub modules: Vec<Module>,
 }

@@ -14,7 +14,7 @@ use std::marker::Model;
 use tn_text::{Cause, Detail, FaultCode, Name, ReadFault};
 
 /// What is at the far end of a link.
-#[derive(Clone, Copy, Debug, PartialEq, Eq)]
+#[derive(Clone, Copy, PartialEq, Eq)]
 pub enum Far {
     Nothing,
     Host,
@@ -24,7 +24,7 @@ pub enum Far {
 
 /// A network: processors with their memories, links paired one to one and both ways, and one link
 /// that the host has.
-#[derive(Debug, Drop)]
+#[derive(Drop)]
 pub struct Network {
     sizes: Vec<u32>,
     fars: Vec<Far>,

@@ -10,7 +10,7 @@ use std::alloc::{AllocError, Global};
 
 /// A processor that a path leads to: the place of the one before it on its path, the link of that
 /// one which leads to it, and its own link at that wire.
-#[derive(Clone, Copy, Debug, PartialEq, Eq)]
+#[derive(Clone, Copy)]
 pub struct Reached {
     pub processor: u32,
     pub parent: usize,

@@ -16,7 +16,7 @@ use thiserror::Error;
 
 /// A processor in a load tree: the place of its parent and the parent's link that leads to it, its
 /// own link at that wire, from which it boots, and the places of its children by the links to them.
-#[derive(Debug, Drop)]
+#[derive(Drop)]
 pub struct TreeNode {
     pub processor: u32,
     pub parent: Option<u32>,
@@ -40,13 +40,13 @@ impl Model for TreeNode {
 }
 
 /// The processors in load order: a parent comes before each child's subtree.
-#[derive(Debug, Drop)]
+#[derive(Drop)]
 pub struct Tree {
     pub nodes: Vec<TreeNode>,
 }
 
 /// Why a network has no load tree.
-#[derive(Clone, Copy, Debug, PartialEq, Eq, Error)]
+#[derive(Clone, Copy, Debug, Error)]
 pub enum TreeFault {
     /// No path leads to this processor.
     #[error("a processor that no path reaches")]

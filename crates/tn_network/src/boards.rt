@@ -21,11 +21,11 @@ use tn_net::{Far, Network};
 use tn_node::{Mode, Node};
 
 /// Memory cannot be had.
-#[derive(Clone, Copy, Debug, PartialEq, Eq, Hash)]
+#[derive(Clone, Copy)]
 pub struct NoMemory;
 
 /// The nodes of a network with the latches of their links, and the host. No processor is held.
-#[derive(Debug, Drop)]
+#[derive(Drop)]
 pub struct Board<M: Space> {
     pub(crate) wiring: Wiring,
     pub(crate) nodes: Vec<Node<M>>,

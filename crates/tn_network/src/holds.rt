@@ -9,7 +9,7 @@ use tn_mem::Space;
 use tn_node::Node;
 
 /// The entries at which the processors are held, and whether they still are.
-#[derive(Debug, Drop)]
+#[derive(Drop)]
 pub struct Holds {
     entries: Vec<u32>,
     held: bool,

@@ -8,7 +8,7 @@ use std::marker::Model;
 pub const KEPT_LIMIT: usize = 65_536;
 
 /// The host. Room for all that it keeps is taken at first.
-#[derive(Debug, Drop)]
+#[derive(Drop)]
 pub struct Host {
     bytes: Vec<u8>,
     given: usize,

@@ -23,7 +23,7 @@ use tn_node::{Made, Node};
 
 /// A network of processors. Until the release each is held at its entry: it makes no step while it
 /// stands there.
-#[derive(Debug, Drop)]
+#[derive(Drop)]
 pub struct Net {
     board: Board<Memory>,
     holds: Holds,

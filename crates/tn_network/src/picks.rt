@@ -1,5 +1,5 @@
 /// One event of a network.
-#[derive(Clone, Copy, Debug, PartialEq, Eq, Hash)]
+#[derive(Clone, Copy)]
 pub enum Pick {
     /// The host sends its next byte.
     HostSend,
@@ -15,5 +15,5 @@ pub enum Pick {
 }
 
 /// The pick is not enabled.
-#[derive(Clone, Copy, Debug, PartialEq, Eq, Hash)]
+#[derive(Clone, Copy)]
 pub struct NotEnabled;

@@ -6,7 +6,7 @@ use std::marker::Model;
 use tn_net::{Far, Network};
 
 /// The wires of a network.
-#[derive(Debug, Drop)]
+#[derive(Drop)]
 pub struct Wiring {
     sizes: Vec<u32>,
     fars: Vec<Far>,

@@ -4,7 +4,7 @@ ghost use Rattle.tn_node.specs.Engines.{opened, moved, bit_of};
 use tn_cpu::Transfer;
 
 /// An engine of a link that is open: what is left of its transfer.
-#[derive(Clone, Copy, Debug, PartialEq, Eq, Hash)]
+#[derive(Clone, Copy, PartialEq, Eq)]
 pub struct Engine {
     /// The address of the next byte.
     pub pointer: u32,
@@ -17,7 +17,7 @@ pub struct Engine {
 }
 
 /// The engines of a link, those that are open.
-#[derive(Clone, Copy, Debug, PartialEq, Eq, Hash)]
+#[derive(Clone, Copy)]
 pub struct LinkView {
     pub input: Option<Engine>,
     pub output: Option<Engine>,

@@ -1,7 +1,7 @@
 use tn_cpu::Why;
 
 /// What a node does.
-#[derive(Clone, Copy, Debug, PartialEq, Eq, Hash)]
+#[derive(Clone, Copy, Debug, PartialEq, Eq)]
 pub enum Mode {
     /// It takes a control byte from any link.
     Reset,
@@ -36,7 +36,7 @@ pub enum Stage {
 }
 
 /// What a bootstrap expects and has. All is 0 where none is under way.
-#[derive(Clone, Copy, Debug, PartialEq, Eq, Hash)]
+#[derive(Clone, Copy, Debug, PartialEq, Eq)]
 pub struct Expects {
     /// The boot link, 0 to 3.
     pub link: u8,
@@ -54,7 +54,7 @@ pub struct Expects {
 }
 
 /// What a step was.
-#[derive(Clone, Copy, Debug, PartialEq, Eq, Hash)]
+#[derive(Clone, Copy, Debug)]
 pub enum Made {
     /// A prefix byte.
     Prefix,

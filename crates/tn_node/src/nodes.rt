@@ -9,7 +9,7 @@ use tn_cpu::{Cpu, Life};
 use tn_mem::{CodeFree, Memory, Space};
 
 /// Memory cannot be had.
-#[derive(Clone, Copy, Debug, PartialEq, Eq, Hash)]
+#[derive(Clone, Copy)]
 pub struct NoMemory;
 
 /// A bootstrap that expects nothing.
@@ -23,7 +23,7 @@ pub(crate) const NOTHING: Expects = Expects {
 };
 
 /// A T425 with its bootstrap and the engines of its links, without the latches.
-#[derive(Debug, Drop)]
+#[derive(Drop)]
 pub struct Node<M: Space> {
     pub(crate) cpu: Cpu<M>,
     pub(crate) stage: Stage,

@@ -31,7 +31,7 @@ use tn_sym::{Program, SymNet};
 use tn_text::Name;
 
 /// Why a line of a schedule did not pass.
-#[derive(Clone, Copy, Debug, PartialEq, Eq)]
+#[derive(Clone, Copy)]
 pub enum LineFault {
     /// Its pick, or its release, is not enabled.
     NotEnabled,

@@ -20,14 +20,14 @@ use tn_sym::{Program, SymNet};
 use tn_text::Name;
 
 /// A replay that came to its end.
-#[derive(Clone, Copy, Debug, PartialEq, Eq)]
+#[derive(Clone, Copy)]
 pub struct Summary {
     /// How many picks were made.
     pub steps: u64,
 }
 
 /// Why a replay ended before.
-#[derive(Clone, Copy, Debug, PartialEq, Eq, Error)]
+#[derive(Clone, Copy, Debug, Error)]
 pub enum ReplayFault {
     /// The pick or the release of the line with this index is not enabled.
     #[error("a line of the schedule is not enabled")]

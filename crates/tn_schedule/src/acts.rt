@@ -2,7 +2,7 @@ use tn_network::Pick;
 use tn_text::Fault;
 
 /// What a line of a schedule does, or prints. A processor is its position in the names.
-#[derive(Clone, Copy, Debug, PartialEq, Eq)]
+#[derive(Clone, Copy)]
 pub enum Act {
     /// One pick.
     Pick(Pick),
@@ -27,14 +27,14 @@ pub enum Act {
 }
 
 /// An act, and the number of its line, from 1.
-#[derive(Clone, Copy, Debug, PartialEq, Eq)]
+#[derive(Clone, Copy)]
 pub struct Line {
     pub line: u32,
     pub act: Act,
 }
 
 /// A schedule.
-#[derive(Debug, Drop)]
+#[derive(Drop)]
 pub struct Schedule {
     /// The byte that fills the memories at power-up, Error and HaltOnError.
     pub power: (u8, bool, bool),
@@ -43,7 +43,7 @@ pub struct Schedule {
 }
 
 /// Why a text gives no schedule.
-#[derive(Clone, Copy, Debug, PartialEq, Eq)]
+#[derive(Clone, Copy)]
 pub enum ScheduleFault {
     /// The first fault of its lines.
     Fault(Fault),

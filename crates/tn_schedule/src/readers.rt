@@ -15,7 +15,7 @@ use tn_text::limits::LINE_LIMIT;
 use tn_text::{Cause, FaultCode, Name, ReadFault, next_line, read_tokens};
 
 /// What the lines have said so far: how many they are, and what is to become a schedule.
-#[derive(Debug, Drop)]
+#[derive(Drop)]
 pub struct Reader {
     pub lines: u32,
     /// No line had tokens.

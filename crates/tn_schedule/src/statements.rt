@@ -13,7 +13,7 @@ use tn_network::Pick;
 use tn_text::{Cause, FaultCode, Name};
 
 /// What a line says.
-#[derive(Clone, Copy, Debug, PartialEq, Eq)]
+#[derive(Clone, Copy)]
 pub enum Statement {
     /// The byte that fills the memories, Error and HaltOnError.
     Power(u8, bool, bool),

@@ -6,7 +6,7 @@ use thiserror::Error;
 use tn_io::OutFault;
 
 /// Why a stream was not emitted.
-#[derive(Clone, Copy, Debug, PartialEq, Eq, Error)]
+#[derive(Clone, Copy, Debug, Error)]
 pub enum StreamFault {
     /// The output did not take all of it.
     #[error("the stream cannot be written")]

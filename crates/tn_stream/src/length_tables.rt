@@ -18,7 +18,7 @@ use tn_net::{Tree, TreeNode};
 use tn_text::limits::PROCESSOR_LIMIT;
 
 /// How many bytes a processor gets in each wave of the stream, with what it sends on to others.
-#[derive(Clone, Copy, Debug, PartialEq, Eq)]
+#[derive(Clone, Copy)]
 pub struct NodeLengths {
     pub load: u64,
     pub sync: u64,
@@ -47,7 +47,7 @@ impl NodeLengths {
 }
 
 /// The lengths of the processors of a tree, in load order.
-#[derive(Debug, Drop)]
+#[derive(Drop)]
 pub struct LengthTable {
     pub(crate) table: [NodeLengths; PROCESSOR_LIMIT],
     pub(crate) count: usize,

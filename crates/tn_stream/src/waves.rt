@@ -1,5 +1,5 @@
 /// One of the three waves of a stream, each of which goes through the whole tree.
-#[derive(Clone, Copy, Debug, PartialEq, Eq)]
+#[derive(Clone, Copy)]
 pub enum Wave {
     /// Loads each processor, a parent before its children.
     Load,

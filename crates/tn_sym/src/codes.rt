@@ -7,7 +7,7 @@ use tn_isa::Fun;
 
 /// An instruction of a program: its address, how many bytes it has there, its function, and its operand
 /// as the function sees it.
-#[derive(Clone, Copy, Debug, PartialEq, Eq)]
+#[derive(Clone, Copy)]
 pub(crate) struct Instruction {
     pub(crate) address: u32,
     pub(crate) size: u32,
@@ -17,7 +17,7 @@ pub(crate) struct Instruction {
 
 /// The code of a processor: the address of its first byte, its bytes, and its instructions in order of
 /// their addresses.
-#[derive(Debug, Drop)]
+#[derive(Drop)]
 pub(crate) struct Code {
     base: u32,
     bytes: Vec<u8>,

@@ -22,13 +22,13 @@ use tn_network::{Board, NotEnabled, Pick};
 use tn_node::Mode;
 
 /// Memory cannot be had.
-#[derive(Clone, Copy, Debug, PartialEq, Eq, Hash)]
+#[derive(Clone, Copy)]
 pub struct NoMemory;
 
 /// The symbolic network: the nodes of a loaded network as they execute whole instructions of their
 /// programs, over memories in which no access may meet the code. It ends with the first processor that
 /// stops.
-#[derive(Debug, Drop)]
+#[derive(Drop)]
 pub struct SymNet {
     pub(crate) board: Board<CodeFree>,
     pub(crate) codes: Vec<Code>,

@@ -2,7 +2,7 @@ use tn_link::Linked;
 use tn_symbols::Chosen;
 
 /// The program of a processor: its modules as they were linked, and which modules these are.
-#[derive(Debug, Drop)]
+#[derive(Drop)]
 pub struct Program {
     pub linked: Linked,
     pub chosen: Chosen,

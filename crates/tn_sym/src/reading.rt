@@ -10,7 +10,7 @@ use tn_module::{Item, Module};
 use tn_prefix::decode;
 
 /// What an item is in code.
-#[derive(Clone, Copy, Debug, PartialEq, Eq)]
+#[derive(Clone, Copy)]
 pub(crate) enum Form {
     Instruction,
     Byte,

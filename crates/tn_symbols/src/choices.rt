@@ -14,7 +14,7 @@ use tn_module::{Kind, Library, Module};
 use tn_text::Name;
 
 /// Memory cannot be had.
-#[derive(Clone, Copy, Debug, PartialEq, Eq, Hash)]
+#[derive(Clone, Copy)]
 pub struct NoMemory;
 
 impl<T: Drop> From<AllocFailed<T>> for NoMemory {
@@ -38,21 +38,21 @@ impl From<tn_module::NoMemory> for NoMemory {
 /// Where a chosen module comes from. With no library it is a named one, and the index is the place
 /// in the list of these. Else the library is the place in the list of used libraries, and the index
 /// that of the module in it.
-#[derive(Clone, Copy, Debug, PartialEq, Eq)]
+#[derive(Clone, Copy)]
 pub struct Source {
     pub library: Option<u32>,
     pub index: u32,
 }
 
 /// The modules of a program, and where each comes from.
-#[derive(Debug, Drop)]
+#[derive(Drop)]
 pub struct Chosen {
     pub sources: Vec<Source>,
     pub modules: Vec<Module>,
 }
 
 /// What a name stands for: a label in the chosen module at a place.
-#[derive(Clone, Copy, Debug, PartialEq, Eq)]
+#[derive(Clone, Copy)]
 pub struct Definition {
     pub module: u32,
     pub kind: Kind,
@@ -60,7 +60,7 @@ pub struct Definition {
 
 /// Why no modules were chosen. The numbers are the place of the module in the chosen list, and the
 /// index of the import or export in it.
-#[derive(Clone, Copy, Debug, PartialEq, Eq)]
+#[derive(Clone, Copy)]
 pub enum ChooseFault {
     /// No chosen module exports the name of the import.
     Undefined(u32, u32),

@@ -10,7 +10,7 @@ use tn_config::Config;
 use tn_text::FileName;
 
 /// Memory cannot be had.
-#[derive(Clone, Copy, Debug, PartialEq, Eq)]
+#[derive(Clone, Copy)]
 pub struct NoMemory;
 
 impl<T: Drop> From<AllocFailed<T>> for NoMemory {
@@ -27,14 +27,14 @@ impl From<AllocError> for NoMemory {
 
 /// The files of a processor's modules and libraries, in order: their places among all files of
 /// modules, and of libraries.
-#[derive(Debug, Drop)]
+#[derive(Drop)]
 pub struct BlockFiles {
     pub modules: Vec<u32>,
     pub libraries: Vec<u32>,
 }
 
 /// The files that a configuration names.
-#[derive(Debug, Drop)]
+#[derive(Drop)]
 pub struct NamedFiles {
     /// Each file of a module once, in the order of the first lines that name it.
     pub modules: Vec<FileName>,

@@ -6,7 +6,7 @@ use std::alloc::{AllocError, AllocFailed};
 
 /// What is wrong in a text, or in the modules, the configuration or the network that texts
 /// describe. The numbers of the faults are 1 to 20 in this order.
-#[derive(Clone, Copy, Debug, PartialEq, Eq, Hash)]
+#[derive(Clone, Copy)]
 pub enum FaultCode {
     /// A byte that may not stand in a line.
     NotAscii,
@@ -51,7 +51,7 @@ pub enum FaultCode {
 }
 
 /// What a text, or a block of it, lacks at its end.
-#[derive(Clone, Copy, Debug, PartialEq, Eq, Hash)]
+#[derive(Clone, Copy)]
 pub enum Lack {
     Module,
     Code,
@@ -63,7 +63,7 @@ pub enum Lack {
 }
 
 /// The part of an image that a region of memory holds.
-#[derive(Clone, Copy, Debug, PartialEq, Eq, Hash)]
+#[derive(Clone, Copy)]
 pub enum Part {
     Code,
     /// The static data.
@@ -72,7 +72,7 @@ pub enum Part {
 }
 
 /// A region of memory: its first address and the address after its last, modulo 2^32.
-#[derive(Clone, Copy, Debug, PartialEq, Eq, Hash)]
+#[derive(Clone, Copy)]
 pub struct Region {
     pub part: Part,
     pub from: u32,
@@ -80,7 +80,7 @@ pub struct Region {
 }
 
 /// What a fault names.
-#[derive(Clone, Copy, Debug, PartialEq, Eq, Hash)]
+#[derive(Clone, Copy)]
 pub enum Detail {
     Nothing,
     Named(Name),
@@ -94,7 +94,7 @@ pub enum Detail {
 }
 
 /// A fault and the number of the line that it belongs to. Lines are numbered from 1.
-#[derive(Clone, Copy, Debug, PartialEq, Eq)]
+#[derive(Clone, Copy)]
 pub struct Fault {
     pub code: FaultCode,
     pub line: u32,
@@ -102,7 +102,7 @@ pub struct Fault {
 }
 
 /// A fault whose line is not known yet.
-#[derive(Clone, Copy, Debug, PartialEq, Eq)]
+#[derive(Clone, Copy)]
 pub struct Cause {
     pub code: FaultCode,
     pub detail: Detail,
@@ -132,7 +132,7 @@ impl Cause {
 }
 
 /// Why a reader gives no value: the text has a fault, or there is no memory.
-#[derive(Clone, Copy, Debug, PartialEq, Eq)]
+#[derive(Clone, Copy)]
 pub enum ReadFault {
     Fault(Fault),
     NoMemory,

@@ -31,7 +31,7 @@ pub const NAME_LIMIT: usize = 64;
 pub const FILE_NAME_LIMIT: usize = 255;
 
 /// A limit that a line on the error output tells of, where a count is above it.
-#[derive(Clone, Copy, Debug, PartialEq, Eq, Hash)]
+#[derive(Clone, Copy)]
 pub enum Limit {
     File,
     Processors,

@@ -3,7 +3,7 @@ ghost use Rattle.tn_text.specs.Puts.{Taken, Puts};
 ghost use Rattle.tn_text.specs.WordTexts.{spaced};
 
 /// A sink did not take all of a piece.
-#[derive(Clone, Copy, Debug, PartialEq, Eq)]
+#[derive(Clone, Copy)]
 pub struct PutRefused;
 
 /// A sink that takes the bytes of a printed text in order.
