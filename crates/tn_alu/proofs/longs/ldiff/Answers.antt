@@ -12,3 +12,6 @@ returns-clause-low c =
     let enough : taken ≤ c.args.b + borrow * 2 ^ 32 = grind (arith, nat_tests) in
     let same : c.words-low.result.0 ≡ (c.args.b + borrow * 2 ^ 32 - taken) % 2 ^ 32 = grind (arith, common_steps, nat_tests) in
     same ∙ sym (word_of-difference c.args.b taken borrow enough)
+
+pub returns-clause-borrow : goal.returns-clause-borrow
+returns-clause-borrow c = grind (arith, common_steps, nat_tests)
