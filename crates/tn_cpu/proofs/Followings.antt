@@ -1,6 +1,6 @@
 -- A turn over a space ends as over a guarded space that it follows.
 use Rattle.std.proofs.Common.{◌≡◌, ℕ, ◌==◌, Bool, true, false, Option, Some, None, Result, Ok, Err, refl, ap, ◌∙◌}
-use Rattle.std.specs.Prelude.{⊤, if◌then◌else◌, ◌&&◌, ◌+◌, ◌%◌, not}
+use Rattle.std.specs.Prelude.{if◌then◌else◌, ◌&&◌, ◌+◌, ◌%◌, not}
 use Rattle.std.specs.Result.{result_err}
 use Rattle.tn_mem.specs.declared.touches.Touch.{Touch}
 use Rattle.tn_mem.specs.declared.touches.Touch.TheVariants.{Outside, Code}
@@ -19,7 +19,7 @@ use Rattle.tn_cpu.specs.declared.registers.Reg.{Reg}
 use Rattle.tn_cpu.specs.declared.registers.Reg.TheVariants.{Undefined, Word}
 use Rattle.tn_cpu.specs.States.{State, over_memory, wrap, below, words_above, cleared}
 use Rattle.tn_cpu.specs.Turns.{Ended, ran, with_word, with_answer, unless_refused, unless_outside, setting_error, goes_on, why_of}
-use Rattle.tn_cpu.specs.Queues.{storable, loadable, block_refusal, source_refusal, stored, copied, word_at, or_then, is_waiting}
+use Rattle.tn_cpu.specs.Queues.{storable, loadable, block_refusal, source_refusal, stored, copied, word_at, is_waiting}
 use Rattle.tn_cpu.specs.Queues.{enqueue_refusal, enqueued_behind, enqueued, next_refusal, idle, resumed, next_from, next, saved}
 use Rattle.tn_cpu.specs.Queues.{slice_refusal, timesliced, ran_or_sliced, gave_way, woken_idle, woken_running, woken_behind}
 use Rattle.tn_cpu.specs.Queues.{woken_by, woken}

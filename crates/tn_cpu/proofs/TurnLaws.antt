@@ -4,8 +4,7 @@ use Rattle.std.proofs.Common.{refl, arith}
 use Rattle.std.specs.Prelude.{⊤, if◌then◌else◌, ◌&&◌, ◌||◌, nat_le, nat_lt, ◌%◌}
 use Rattle.std.proofs.lemmas.Bool.Decides.{nat_tests}
 use Rattle.tn_mem.specs.declared.touches.Touch.{Touch}
-use Rattle.tn_mem.specs.declared.touches.Touch.TheVariants.{Outside, Code}
-use Rattle.tn_mem.specs.Spaces.{Access, first_refusal}
+use Rattle.tn_mem.specs.Spaces.{Access}
 use Rattle.tn_isa.specs.declared.functions.Fun.{Fun}
 use Rattle.tn_isa.specs.declared.functions.Fun.TheVariants.{Opr}
 use Rattle.tn_isa.specs.declared.operations.Op.{Op}

@@ -10,3 +10,4 @@ pub mod Codes
 pub mod TurnEnds
 pub mod OutcomeLaws
 pub mod Following
+pub mod Inner

@@ -1,8 +1,8 @@
 ghost use Rattle.std.specs.Prelude.{◌≡◌};
-ghost use Rattle.tn_isa.specs.declared.operations.Op.{Op};
 ghost use Rattle.tn_cpu.specs.States.{filled};
-ghost use Rattle.tn_cpu.specs.Turns.{ran};
-ghost use Rattle.tn_cpu.specs.Effects.{operate, unchecked};
+ghost use Rattle.tn_cpu.specs.Turns.{ran, with_two, with_three, joins};
+ghost use Rattle.tn_cpu.specs.Effects.{unchecked};
+ghost use Rattle.tn_cpu.specs.Inner.Results.{answer_of, low_of, high_of};
 
 use crate::outcomes::{Outcome, Why};
 use crate::processors::Cpu;
@@ -12,204 +12,76 @@ use crate::turns::Turn;
 use tn_alu::Answer;
 use tn_mem::Space;
 
-/// The operations whose results take the place of Areg and Breg.
-impl<M: Space> Cpu<M> {
+/// An operation whose result takes the place of Areg and Breg.
+#[derive(Clone, Copy)]
+pub(crate) enum Pair {
     /// `bsub`: the address Areg bytes above Breg.
-    pub(crate) fn bsub(&mut self, turn: Turn) -> Outcome
-        ensures { operate M.access Op.Bsub turn self.old ≡ record { state = self.new; outcome = result } }
-    {
-        match (self.registers.a, self.registers.b) {
-            (Reg::Word(a), Reg::Word(b)) => self.join(unchecked(a.wrapping_add(b)), turn.following),
-            _ => self.stop(Why::Undefined),
-        }
-    }
-
+    Bsub,
     /// `diff`: Breg less Areg.
-    pub(crate) fn diff(&mut self, turn: Turn) -> Outcome
-        ensures { operate M.access Op.Diff turn self.old ≡ record { state = self.new; outcome = result } }
-    {
-        match (self.registers.a, self.registers.b) {
-            (Reg::Word(a), Reg::Word(b)) => self.join(unchecked(b.wrapping_sub(a)), turn.following),
-            _ => self.stop(Why::Undefined),
-        }
-    }
-
+    Diff,
     /// `add`: Breg and Areg added, checked.
-    pub(crate) fn add(&mut self, turn: Turn) -> Outcome
-        ensures { operate M.access Op.Add turn self.old ≡ record { state = self.new; outcome = result } }
-    {
-        match (self.registers.a, self.registers.b) {
-            (Reg::Word(a), Reg::Word(b)) => self.join(tn_alu::add(b, a), turn.following),
-            _ => self.stop(Why::Undefined),
-        }
-    }
-
+    Add,
     /// `prod`: Breg times Areg.
-    pub(crate) fn prod(&mut self, turn: Turn) -> Outcome
-        ensures { operate M.access Op.Prod turn self.old ≡ record { state = self.new; outcome = result } }
-    {
-        match (self.registers.a, self.registers.b) {
-            (Reg::Word(a), Reg::Word(b)) => self.join(unchecked(b.wrapping_mul(a)), turn.following),
-            _ => self.stop(Why::Undefined),
-        }
-    }
-
+    Prod,
     /// `gt`: 1 where Breg is above Areg, signed, else 0.
-    pub(crate) fn gt(&mut self, turn: Turn) -> Outcome
-        ensures { operate M.access Op.Gt turn self.old ≡ record { state = self.new; outcome = result } }
-    {
-        match (self.registers.a, self.registers.b) {
-            (Reg::Word(a), Reg::Word(b)) => self.join(
-                unchecked(u32::from(b.cast_signed() > a.cast_signed())),
-                turn.following,
-            ),
-            _ => self.stop(Why::Undefined),
-        }
-    }
-
+    Gt,
     /// `wsub`: the address Breg words above Areg.
-    pub(crate) fn wsub(&mut self, turn: Turn) -> Outcome
-        ensures { operate M.access Op.Wsub turn self.old ≡ record { state = self.new; outcome = result } }
-    {
-        match (self.registers.a, self.registers.b) {
-            (Reg::Word(a), Reg::Word(b)) => self.join(unchecked(words_above(a, b)), turn.following),
-            _ => self.stop(Why::Undefined),
-        }
-    }
-
+    Wsub,
     /// `sub`: Breg less Areg, checked.
-    pub(crate) fn sub(&mut self, turn: Turn) -> Outcome
-        ensures { operate M.access Op.Sub turn self.old ≡ record { state = self.new; outcome = result } }
-    {
-        match (self.registers.a, self.registers.b) {
-            (Reg::Word(a), Reg::Word(b)) => self.join(tn_alu::sub(b, a), turn.following),
-            _ => self.stop(Why::Undefined),
-        }
-    }
-
+    Sub,
     /// `rem`: the remainder of Breg by Areg, with the sign of Breg.
-    pub(crate) fn rem(&mut self, turn: Turn) -> Outcome
-        ensures { operate M.access Op.Rem turn self.old ≡ record { state = self.new; outcome = result } }
-    {
-        match (self.registers.a, self.registers.b) {
-            (Reg::Word(a), Reg::Word(b)) => self.join(tn_alu::rem(b, a), turn.following),
-            _ => self.stop(Why::Undefined),
-        }
-    }
-
+    Rem,
     /// `div`: the quotient of Breg by Areg, towards zero.
-    pub(crate) fn div(&mut self, turn: Turn) -> Outcome
-        ensures { operate M.access Op.Div turn self.old ≡ record { state = self.new; outcome = result } }
-    {
-        match (self.registers.a, self.registers.b) {
-            (Reg::Word(a), Reg::Word(b)) => self.join(tn_alu::div(b, a), turn.following),
-            _ => self.stop(Why::Undefined),
-        }
-    }
-
+    Div,
     /// `xor`: the exclusive or of Breg and Areg.
-    pub(crate) fn xor(&mut self, turn: Turn) -> Outcome
-        ensures { operate M.access Op.Xor turn self.old ≡ record { state = self.new; outcome = result } }
-    {
-        match (self.registers.a, self.registers.b) {
-            (Reg::Word(a), Reg::Word(b)) => self.join(unchecked(b ^ a), turn.following),
-            _ => self.stop(Why::Undefined),
-        }
-    }
-
+    Xor,
     /// `shr`: Breg shifted right by Areg.
-    pub(crate) fn shr(&mut self, turn: Turn) -> Outcome
-        ensures { operate M.access Op.Shr turn self.old ≡ record { state = self.new; outcome = result } }
-    {
-        match (self.registers.a, self.registers.b) {
-            (Reg::Word(a), Reg::Word(b)) => self.join(tn_alu::shr(b, a), turn.following),
-            _ => self.stop(Why::Undefined),
-        }
-    }
-
+    Shr,
     /// `shl`: Breg shifted left by Areg.
-    pub(crate) fn shl(&mut self, turn: Turn) -> Outcome
-        ensures { operate M.access Op.Shl turn self.old ≡ record { state = self.new; outcome = result } }
-    {
-        match (self.registers.a, self.registers.b) {
-            (Reg::Word(a), Reg::Word(b)) => self.join(tn_alu::shl(b, a), turn.following),
-            _ => self.stop(Why::Undefined),
-        }
-    }
-
+    Shl,
     /// `and`: the bits that Breg and Areg share.
-    pub(crate) fn and(&mut self, turn: Turn) -> Outcome
-        ensures { operate M.access Op.And turn self.old ≡ record { state = self.new; outcome = result } }
-    {
-        match (self.registers.a, self.registers.b) {
-            (Reg::Word(a), Reg::Word(b)) => self.join(unchecked(b & a), turn.following),
-            _ => self.stop(Why::Undefined),
-        }
-    }
-
+    And,
     /// `or`: the bits of Breg and Areg.
-    pub(crate) fn or(&mut self, turn: Turn) -> Outcome
-        ensures { operate M.access Op.Or turn self.old ≡ record { state = self.new; outcome = result } }
-    {
-        match (self.registers.a, self.registers.b) {
-            (Reg::Word(a), Reg::Word(b)) => self.join(unchecked(b | a), turn.following),
-            _ => self.stop(Why::Undefined),
-        }
-    }
-
+    Or,
     /// `sum`: Breg and Areg added.
-    pub(crate) fn sum(&mut self, turn: Turn) -> Outcome
-        ensures { operate M.access Op.Sum turn self.old ≡ record { state = self.new; outcome = result } }
-    {
-        match (self.registers.a, self.registers.b) {
-            (Reg::Word(a), Reg::Word(b)) => self.join(unchecked(b.wrapping_add(a)), turn.following),
-            _ => self.stop(Why::Undefined),
-        }
-    }
-
+    Sum,
     /// `mul`: Breg times Areg, checked.
-    pub(crate) fn mul(&mut self, turn: Turn) -> Outcome
-        ensures { operate M.access Op.Mul turn self.old ≡ record { state = self.new; outcome = result } }
+    Mul,
+}
+
+/// An operation on all three registers whose result takes the place of Areg and Breg.
+#[derive(Clone, Copy)]
+pub(crate) enum Long {
+    /// `lmul`: Areg times Breg with Creg added, in two words.
+    Lmul,
+    /// `lsum`: Breg, Areg and the lowest bit of Creg added, and the carry.
+    Lsum,
+    /// `ldiff`: Breg less Areg less the lowest bit of Creg, and the borrow.
+    Ldiff,
+}
+
+/// The operations whose results take the place of the upper registers.
+impl<M: Space> Cpu<M> {
+    /// Executes an operation whose result takes the place of Areg and Breg.
+    pub(crate) fn join_pair(&mut self, pair: Pair, turn: Turn) -> Outcome
+        ensures { with_two self.old.a self.old.b self.old (λ a b. joins (answer_of pair a b) turn.following self.old)
+            ≡ record { state = self.new; outcome = result } }
     {
         match (self.registers.a, self.registers.b) {
-            (Reg::Word(a), Reg::Word(b)) => self.join(tn_alu::mul(b, a), turn.following),
+            (Reg::Word(a), Reg::Word(b)) => self.join(answer_of(pair, a, b), turn.following),
             _ => self.stop(Why::Undefined),
         }
     }
 
-    /// `lmul`: Areg times Breg with Creg added, in two words.
-    pub(crate) fn lmul(&mut self, turn: Turn) -> Outcome
-        ensures { operate M.access Op.Lmul turn self.old ≡ record { state = self.new; outcome = result } }
+    /// Executes an operation on all three registers.
+    pub(crate) fn fill_long(&mut self, long: Long, turn: Turn) -> Outcome
+        ensures { with_three self.old.a self.old.b self.old.c self.old
+            (λ a b c. ran turn.following (filled (low_of long a b c) (high_of long a b c) self.old))
+            ≡ record { state = self.new; outcome = result } }
     {
         match (self.registers.a, self.registers.b, self.registers.c) {
             (Reg::Word(a), Reg::Word(b), Reg::Word(c)) => self.fill(
-                tn_alu::lmul(a, b, c),
-                turn.following,
-            ),
-            _ => self.stop(Why::Undefined),
-        }
-    }
-
-    /// `lsum`: Breg, Areg and the lowest bit of Creg added, and the carry.
-    pub(crate) fn lsum(&mut self, turn: Turn) -> Outcome
-        ensures { operate M.access Op.Lsum turn self.old ≡ record { state = self.new; outcome = result } }
-    {
-        match (self.registers.a, self.registers.b, self.registers.c) {
-            (Reg::Word(a), Reg::Word(b), Reg::Word(c)) => self.fill(
-                tn_alu::lsum(a, b, c),
-                turn.following,
-            ),
-            _ => self.stop(Why::Undefined),
-        }
-    }
-
-    /// `ldiff`: Breg less Areg less the lowest bit of Creg, and the borrow.
-    pub(crate) fn ldiff(&mut self, turn: Turn) -> Outcome
-        ensures { operate M.access Op.Ldiff turn self.old ≡ record { state = self.new; outcome = result } }
-    {
-        match (self.registers.a, self.registers.b, self.registers.c) {
-            (Reg::Word(a), Reg::Word(b), Reg::Word(c)) => self.fill(
-                tn_alu::ldiff(a, b, c),
+                words_of(long, a, b, c),
                 turn.following,
             ),
             _ => self.stop(Why::Undefined),
@@ -224,6 +96,42 @@ impl<M: Space> Cpu<M> {
         self.registers.b = Reg::Word(words.1);
         self.registers.c = Reg::Undefined;
         self.go_on(iptr)
+    }
+}
+
+/// The result of an operation on Areg and Breg.
+fn answer_of(pair: Pair, a: u32, b: u32) -> Answer
+    ensures { result ≡ answer_of pair a b }
+{
+    match pair {
+        Pair::Bsub => unchecked(a.wrapping_add(b)),
+        Pair::Diff => unchecked(b.wrapping_sub(a)),
+        Pair::Add => tn_alu::add(b, a),
+        Pair::Prod => unchecked(b.wrapping_mul(a)),
+        Pair::Gt => unchecked(u32::from(b.cast_signed() > a.cast_signed())),
+        Pair::Wsub => unchecked(words_above(a, b)),
+        Pair::Sub => tn_alu::sub(b, a),
+        Pair::Rem => tn_alu::rem(b, a),
+        Pair::Div => tn_alu::div(b, a),
+        Pair::Xor => unchecked(b ^ a),
+        Pair::Shr => tn_alu::shr(b, a),
+        Pair::Shl => tn_alu::shl(b, a),
+        Pair::And => unchecked(b & a),
+        Pair::Or => unchecked(b | a),
+        Pair::Sum => unchecked(b.wrapping_add(a)),
+        Pair::Mul => tn_alu::mul(b, a),
+    }
+}
+
+/// The words that an operation on all three registers leaves in Areg and in Breg.
+fn words_of(long: Long, a: u32, b: u32, c: u32) -> (u32, u32)
+    ensures low { result.0 ≡ low_of long a b c }
+    ensures high { result.1 ≡ high_of long a b c }
+{
+    match long {
+        Long::Lmul => tn_alu::lmul(a, b, c),
+        Long::Lsum => tn_alu::lsum(a, b, c),
+        Long::Ldiff => tn_alu::ldiff(a, b, c),
     }
 }
 

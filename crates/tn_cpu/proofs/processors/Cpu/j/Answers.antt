@@ -1,4 +1,4 @@
-use Rattle.std.proofs.Common.{sym, subst, ap}
+use Rattle.std.proofs.Common.{sym, subst, ap, rules}
 use Rattle.tn_mem.specs.Spaces.{SameExtents}
 use Rattle.tn_mem.proofs.SpaceLemmas.{extents-none}
 use Rattle.tn_cpu.specs.States.{State}
@@ -13,3 +13,6 @@ go_on_or_slice-requires g c =
     (extents-none g.M.Space.access now.memory))
     (ap (λ (u : State _). u.front) c.clear.ensures) (ap (λ (u : State _). u.back) c.clear.ensures)
     (ap (λ (u : State _). u.wptr) c.clear.ensures) (sym c.in-None.ensures)
+
+pub returns-in-None : goal.returns-in-None
+returns-in-None g c = search rules
