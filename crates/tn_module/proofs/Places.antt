@@ -1,12 +1,12 @@
 -- What is wrong at the places of a list, one after the other.
-use Rattle.std.proofs.Common.{◌≡◌, ℕ, ◌+◌, ◌<◌, ◌≤◌, inl, inr, Bool, not, List, [], ◌∷◌, ◌++◌, length, get_or, take, take_all, Option, None}
+use Rattle.std.proofs.Common.{◌≡◌, ℕ, ◌+◌, ◌<◌, ◌≤◌, inl, inr, Bool, true, false, not, List, [], ◌∷◌, ◌++◌, length, get_or, take, take_all, Option, None}
 use Rattle.std.proofs.Common.{Some, refl, sym, ap, ◌∙◌, subst, append_assoc, arith}
 use Rattle.std.specs.Prelude.{slice_get, option_and_then}
 use Rattle.std.proofs.lemmas.List.{take_more, map-append}
 use Rattle.std.specs.List.{All}
 use Rattle.std.proofs.lemmas.List.Elements.{filter_map-append, All-more}
 use Rattle.std.proofs.lemmas.Bool.{cases_lt}
-use Rattle.std.proofs.lemmas.Option.{slice_get_read, slice_get_past}
+use Rattle.std.proofs.lemmas.Option.{slice_get_read, slice_get_past, none-some}
 use Rattle.tn_text.specs.declared.faults.Cause.{Cause}
 use Rattle.tn_text.specs.declared.faults.FaultCode.TheVariants.{DuplicateName, NoSuchName, Misaligned}
 use Rattle.tn_module.specs.declared.faults.Place.{Place}
@@ -36,6 +36,10 @@ grown h splits outer seen new xs i x l is a b =
     (append_assoc outer (h (take i xs)) (h (x ∷ []))
     ∙ ap (λ ns. outer ++ ns) (sym (splits (take i xs) (x ∷ [])) ∙ ap (λ y. h (take i xs ++ y ∷ [])) is ∙ ap h (sym (take_more xs i x l))))
     (same-then seen (outer ++ h (take i xs)) new (h (x ∷ [])) a b)
+
+pub names_grown : (outer seen new xs : List (List ℕ)) (i : ℕ) (x : List ℕ) → i < length xs → x ≡ get_or xs i x
+    → HaveSameNames seen (outer ++ take i xs) → HaveSameNames new (seen ++ x ∷ []) → HaveSameNames new (outer ++ take (i + 1) xs)
+names_grown outer seen new xs i x l is a b = grown (λ xs. xs) (λ xs ys. refl) outer seen new xs i x l is a b
 
 pub imports_grown : (seen new : List (List ℕ)) (xs : List Import) (i : ℕ) (x : Import) → i < length xs → x ≡ get_or xs i x
     → HaveSameNames seen (import_names (take i xs)) → HaveSameNames new (seen ++ x.name ∷ [])
@@ -82,6 +86,12 @@ cell-same k seen before (cell.Byte b) h = refl
 cell-same k seen before (cell.Space n) h = refl
 cell-same k seen before cell.Align h = refl
 cell-same k seen before (cell.Label n) h = again-same seen before n [] h
+
+-- behind a test that gives nothing the others stand first
+pub behind_none : (test : Bool) (cause : Cause) (found : Option Cause) (others : List (Bool × Cause))
+    → found ≡ first_cause ((test, cause) ∷ []) → found ≡ None → first_cause others ≡ first_cause ((test, cause) ∷ others)
+behind_none true cause found others is none = absurd (none-some cause (sym none ∙ is))
+behind_none false cause found others is none = refl
 
 module _ (m : Parts) (seen : List (List ℕ)) (i : ℕ) (found : Option Cause) where
   pub at_import : (x : Import) → i < length m.imports → x ≡ get_or m.imports i x → HaveSameNames seen (import_names (take i m.imports))

@@ -1,4 +1,4 @@
-ghost use Rattle.std.specs.Prelude.{◌≡◌, ◌++◌, All, IfOk, OnOk};
+ghost use Rattle.std.specs.Prelude.{◌≡◌, [], ◌++◌, All, IfOk, OnOk};
 ghost use Rattle.tn_module.specs.declared.faults.Place.TheVariants as place;
 ghost use Rattle.tn_module.specs.declared.faults.CheckFault.TheVariants as check;
 ghost use Rattle.tn_module.specs.Modules.{module_of, IsShort};
@@ -10,7 +10,7 @@ ghost use Rattle.tn_module.specs.Inner.Sets.{HaveSameNames, known_by, IsSound, A
 use crate::causes::{again, cell_cause, export_cause, item_cause};
 use crate::faults::{CheckFault, ModuleFault, Place};
 use crate::modules::RawModule;
-use crate::name_sets::NameSets;
+use crate::name_sets::{NameSets, release};
 use indexmap::IndexSet;
 use std::alloc::Global;
 use tn_text::{Cause, Name, is_name};
@@ -24,10 +24,24 @@ pub(crate) fn check_places(alloc: Global, raw: &RawModule) -> Result<(), CheckFa
 {
     prove!(is_name(raw.name.bytes()));
     let names = NameSets::of(alloc, raw)?;
+    let looked = check_lists(alloc, raw, &names);
+    names.release();
+    looked
+}
+
+/// Looks at the lists of a module, where its names are these.
+fn check_lists(alloc: Global, raw: &RawModule, names: &NameSets) -> Result<(), CheckFault>
+    requires short { IsShort (module_of raw.now) }
+    requires names { known_by names.now ≡ known (module_of raw.now) }
+    requires name { IsName raw.now.name }
+    ensures sound { OnOk result (IsSound (module_of raw.now)) }
+    ensures ranges { OnOk result (IsInRange (module_of raw.now)) }
+    ensures fault { OnFault result (IsFirstFault (module_of raw.now)) }
+{
     let imported = check_imports(alloc, raw)?;
-    check_exports(alloc, raw, &names)?;
-    let outside_cells = check_items(raw, &names, imported)?;
-    check_cells(raw, &names, outside_cells)
+    check_exports(alloc, raw, names)?;
+    let outside_cells = check_items(raw, names, imported)?;
+    check_cells(raw, names, outside_cells)
 }
 
 /// Looks at the imports, and answers their names.
@@ -39,12 +53,30 @@ fn check_imports(alloc: Global, raw: &RawModule) -> Result<IndexSet<Name>, Check
     ensures fault { OnFault result (IsFirstIn place.Import (module_of raw.now)) }
 {
     let mut seen = IndexSet::new(alloc);
+    match enter_imports(raw, &mut seen) {
+        Ok(()) => Ok(seen),
+        Err(fault) => {
+            release(seen);
+            Err(fault)
+        }
+    }
+}
+
+/// Looks at the imports, where no name is seen before them, and enters their names.
+fn enter_imports(raw: &RawModule, seen: &mut IndexSet<Name>) -> Result<(), CheckFault>
+    requires short { IsShort (module_of raw.now) }
+    requires seen { seen.old.keys ≡ [] }
+    ensures names { OnOk result (HaveSameNames seen.new.keys (import_names raw.now.imports.items)) }
+    ensures sound { OnOk result (AreSound place.Import (module_of raw.now)) }
+    ensures ranges { OnOk result (All IsImport raw.now.imports.items) }
+    ensures fault { OnFault result (IsFirstIn place.Import (module_of raw.now)) }
+{
     for (i, import) in raw.imports.iter().enumerate() {
-        if let Some(cause) = again(&mut seen, &import.name)? {
+        if let Some(cause) = again(seen, &import.name)? {
             return Err(fault_at(Place::Import(i as u32), cause));
         }
     }
-    Ok(seen)
+    Ok(())
 }
 
 /// Looks at the exports.
@@ -56,8 +88,26 @@ fn check_exports(alloc: Global, raw: &RawModule, names: &NameSets) -> Result<(),
     ensures fault { OnFault result (IsFirstIn place.Export (module_of raw.now)) }
 {
     let mut seen = IndexSet::new(alloc);
+    let looked = enter_exports(raw, names, &mut seen);
+    release(seen);
+    looked
+}
+
+/// Looks at the exports, where no name is seen before them, and enters their names.
+fn enter_exports(
+    raw: &RawModule,
+    names: &NameSets,
+    seen: &mut IndexSet<Name>,
+) -> Result<(), CheckFault>
+    requires short { IsShort (module_of raw.now) }
+    requires names { known_by names.now ≡ known (module_of raw.now) }
+    requires seen { seen.old.keys ≡ [] }
+    ensures sound { OnOk result (AreSound place.Export (module_of raw.now)) }
+    ensures ranges { OnOk result (All IsName (module_of raw.now).exports) }
+    ensures fault { OnFault result (IsFirstIn place.Export (module_of raw.now)) }
+{
     for (i, name) in raw.exports.iter().enumerate() {
-        if let Some(cause) = export_cause(names, &mut seen, name)? {
+        if let Some(cause) = export_cause(names, seen, name)? {
             return Err(fault_at(Place::Export(i as u32), cause));
         }
     }
@@ -78,12 +128,35 @@ fn check_items(
     ensures ranges { OnOk result (All IsItem raw.now.items.items) }
     ensures fault { OnFault result (IsFirstIn place.Item (module_of raw.now)) }
 {
+    match enter_items(raw, names, &mut seen) {
+        Ok(()) => Ok(seen),
+        Err(fault) => {
+            release(seen);
+            Err(fault)
+        }
+    }
+}
+
+/// Looks at the items, where the names of imports are seen, and enters the labels.
+fn enter_items(
+    raw: &RawModule,
+    names: &NameSets,
+    seen: &mut IndexSet<Name>,
+) -> Result<(), CheckFault>
+    requires short { IsShort (module_of raw.now) }
+    requires names { known_by names.now ≡ known (module_of raw.now) }
+    requires seen { HaveSameNames seen.old.keys (import_names raw.now.imports.items) }
+    ensures names { OnOk result (HaveSameNames seen.new.keys (import_names raw.now.imports.items ++ code_labels raw.now.items.items)) }
+    ensures sound { OnOk result (AreSound place.Item (module_of raw.now)) }
+    ensures ranges { OnOk result (All IsItem raw.now.items.items) }
+    ensures fault { OnFault result (IsFirstIn place.Item (module_of raw.now)) }
+{
     for (i, item) in raw.items.iter().enumerate() {
-        if let Some(cause) = item_cause(names, &mut seen, item)? {
+        if let Some(cause) = item_cause(names, seen, item)? {
             return Err(fault_at(Place::Item(i as u32), cause));
         }
     }
-    Ok(seen)
+    Ok(())
 }
 
 /// Looks at the cells, where the names of imports and of code are seen.
@@ -99,8 +172,26 @@ fn check_cells(
     ensures ranges { OnOk result (All IsCell raw.now.cells.items) }
     ensures fault { OnFault result (IsFirstIn place.Cell (module_of raw.now)) }
 {
+    let looked = enter_cells(raw, names, &mut seen);
+    release(seen);
+    looked
+}
+
+/// Looks at the cells, where the names of imports and of code are seen, and enters the labels.
+fn enter_cells(
+    raw: &RawModule,
+    names: &NameSets,
+    seen: &mut IndexSet<Name>,
+) -> Result<(), CheckFault>
+    requires short { IsShort (module_of raw.now) }
+    requires names { known_by names.now ≡ known (module_of raw.now) }
+    requires seen { HaveSameNames seen.old.keys (import_names raw.now.imports.items ++ code_labels raw.now.items.items) }
+    ensures sound { OnOk result (AreSound place.Cell (module_of raw.now)) }
+    ensures ranges { OnOk result (All IsCell raw.now.cells.items) }
+    ensures fault { OnFault result (IsFirstIn place.Cell (module_of raw.now)) }
+{
     for (i, cell) in raw.cells.iter().enumerate() {
-        if let Some(cause) = cell_cause(names, &mut seen, cell)? {
+        if let Some(cause) = cell_cause(names, seen, cell)? {
             return Err(fault_at(Place::Cell(i as u32), cause));
         }
     }

@@ -1,4 +1,4 @@
-ghost use Rattle.std.specs.Prelude.{◌≡◌, ℕ, ◌+◌, ◌*◌, ◌<◌, ◌≤◌, ◌^◌, List, [], ◌∷◌, ◌++◌, map, length, IfOk, OnOk};
+ghost use Rattle.std.specs.Prelude.{◌≡◌, ℕ, ◌+◌, ◌*◌, ◌<◌, ◌≤◌, ◌^◌, List, [], ◌∷◌, ◌++◌, map, length, Ok, IfOk, OnOk};
 ghost use Rattle.std.specs.List.{filter_map};
 ghost use Rattle.tn_module.specs.Modules.{module_of, IsShort};
 ghost use Rattle.tn_module.specs.Names.{is_among, imported_code, imported_cell, code_label};
@@ -34,14 +34,61 @@ impl NameSets {
         requires { IsShort (module_of raw.now) }
         ensures { IfOk result (λ sets. known_by sets ≡ known (module_of raw.now)) }
     {
-        Ok(NameSets {
-            defined: defined(alloc, raw)?,
-            code: code(alloc, raw)?,
-            cells: cells(alloc, raw)?,
-            labels: labels(alloc, raw)?,
-            misaligned: misaligned(alloc, raw)?,
-        })
+        let mut sets = NameSets {
+            defined: IndexSet::new(alloc),
+            code: IndexSet::new(alloc),
+            cells: IndexSet::new(alloc),
+            labels: IndexSet::new(alloc),
+            misaligned: IndexSet::new(alloc),
+        };
+        match sets.fill(alloc, raw) {
+            Ok(()) => Ok(sets),
+            Err(want) => {
+                sets.release();
+                Err(want)
+            }
+        }
     }
+
+    /// Gives the memory of the sets back.
+    pub(crate) fn release(self) {
+        let NameSets {
+            defined,
+            code,
+            cells,
+            labels,
+            misaligned,
+        } = self;
+        release(defined);
+        release(code);
+        release(cells);
+        release(labels);
+        release(misaligned);
+    }
+
+    /// Puts the names of this module in the place of those in the sets.
+    fn fill(&mut self, alloc: Global, raw: &RawModule) -> Result<(), NoMemory>
+        requires { IsShort (module_of raw.now) }
+        ensures { OnOk result (known_by self.new ≡ known (module_of raw.now)) }
+    {
+        put(&mut self.defined, defined(alloc, raw))?;
+        put(&mut self.code, code(alloc, raw))?;
+        put(&mut self.cells, cells(alloc, raw))?;
+        put(&mut self.labels, labels(alloc, raw))?;
+        put(&mut self.misaligned, misaligned(alloc, raw))?;
+        Ok(())
+    }
+}
+
+/// Gives the memory of a set back.
+pub(crate) fn release(_set: IndexSet<Name>) {}
+
+/// Puts the set that was made in the place of the other one, where there was memory for it.
+fn put(set: &mut IndexSet<Name>, made: Result<IndexSet<Name>, NoMemory>) -> Result<(), NoMemory>
+    ensures { OnOk result (made ≡ Ok set.new) }
+{
+    *set = made?;
+    Ok(())
 }
 
 fn defined(alloc: Global, raw: &RawModule) -> Result<IndexSet<Name>, NoMemory>

@@ -5,7 +5,7 @@ use Rattle.tn_module.specs.Names.{import_names}
 use Rattle.tn_module.specs.Inner.Sets.{known_by}
 use Rattle.tn_module.proofs.Places.{at_item, items_grown, items_sound, first_in, all-grown, all-seen}
 use Rattle.tn_module.specs.Ranges.{IsItem}
-use Rattle.tn_module.proofs.checks.check_items.Goals as goal
+use Rattle.tn_module.proofs.checks.enter_items.Goals as goal
 
 pub returns-in-Some-clause-fault : goal.returns-in-Some-clause-fault
 returns-in-Some-clause-fault c =

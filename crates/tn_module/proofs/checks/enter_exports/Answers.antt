@@ -4,7 +4,7 @@ use Rattle.tn_module.specs.Modules.{module_of}
 use Rattle.tn_module.specs.Inner.Sets.{known_by}
 use Rattle.tn_module.proofs.Places.{at_export, exports_grown, exports_sound, first_in, all-grown, all-seen}
 use Rattle.tn_module.specs.Ranges.{IsName}
-use Rattle.tn_module.proofs.checks.check_exports.Goals as goal
+use Rattle.tn_module.proofs.checks.enter_exports.Goals as goal
 
 pub returns-in-Some-clause-fault : goal.returns-in-Some-clause-fault
 returns-in-Some-clause-fault c =

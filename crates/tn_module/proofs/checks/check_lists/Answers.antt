@@ -3,13 +3,13 @@ use Rattle.tn_text.proofs.Results.{of-error}
 use Rattle.tn_module.specs.Modules.{module_of}
 use Rattle.tn_module.specs.Faults.{IsFirstFault, OnFault}
 use Rattle.tn_module.proofs.Order.{on-fault, if-fault, first_import, first_export, first_item, first_cell, all_sound}
-use Rattle.tn_module.proofs.checks.check_places.Goals as goal
+use Rattle.tn_module.proofs.checks.check_lists.Goals as goal
 
 pub returns-in_err-imported-clause-fault : goal.returns-in_err-imported-clause-fault
 returns-in_err-imported-clause-fault c =
     of-error (λ r. OnFault r (IsFirstFault
-    (module_of c.args.raw.now))) c.from_residual-in_err-imported.result c.in_err-imported.field-0.0
-    c.from_residual-in_err-imported.ensures.1
+    (module_of c.args.raw.now))) c.from_residual.result c.in_err-imported.field-0.0
+    c.from_residual.ensures.1
     (if-fault c.in_err-imported.field-0.0 (first_import (module_of c.args.raw.now)) c.in_err-imported.ensures.fault)
 
 pub returns-in_err-check_exports-clause-fault : goal.returns-in_err-check_exports-clause-fault
@@ -44,7 +44,7 @@ pub returns-clause-ranges : goal.returns-clause-ranges
 returns-clause-ranges c =
     on_ok_weaker c.check_cells.result
     (λ cells. record {
-      name = c.bytes.ensures.valid;
+      name = c.requires.name;
       imports = c.in_ok-imported.ensures.ranges;
       exports = c.in_ok-check_exports.ensures.ranges;
       items = c.in_ok-outside_cells.ensures.ranges;

@@ -3,7 +3,7 @@ use Rattle.tn_module.specs.declared.faults.Place.TheVariants as place
 use Rattle.tn_module.specs.Modules.{module_of}
 use Rattle.tn_module.proofs.Places.{at_import, imports_grown, imports_sound, first_in, all-grown, all-seen}
 use Rattle.tn_module.specs.Ranges.{IsImport}
-use Rattle.tn_module.proofs.checks.check_imports.Goals as goal
+use Rattle.tn_module.proofs.checks.enter_imports.Goals as goal
 
 pub returns-in-Some-clause-fault : goal.returns-in-Some-clause-fault
 returns-in-Some-clause-fault c =
