@@ -1,7 +1,7 @@
 -- A whole instruction on a processor of a board.
-use Rattle.std.proofs.Common.{◌≡◌, ℕ, ◌+◌, ◌*◌, ◌<◌, ◌≤◌, ◌^◌, Bool, true, false, List, length, set, Option, Some, None, refl, sym, ap}
+use Rattle.std.proofs.Common.{◌≡◌, ℕ, ◌<◌, ◌^◌, Bool, true, false, List, length, set, Option, refl, sym, ap}
 use Rattle.std.proofs.Common.{subst, ◌∙◌, arith}
-use Rattle.std.specs.Prelude.{slice_index_or, slice_get, nat_lt, ◌&&◌}
+use Rattle.std.specs.Prelude.{slice_index_or, nat_lt}
 use Rattle.std.proofs.lemmas.Bool.Decides.{nat_tests}
 use Rattle.tn_isa.specs.declared.functions.Fun.{Fun}
 use Rattle.tn_mem.specs.Spaces.{Access, IsSpace}
@@ -13,7 +13,7 @@ use Rattle.tn_node.proofs.Stepping.{item_step-awaits, item_step-node}
 use Rattle.tn_network.specs.declared.picks.Pick.{Pick}
 use Rattle.tn_network.specs.declared.picks.Pick.TheVariants.{Proc}
 use Rattle.tn_network.specs.Hosts.{HostState}
-use Rattle.tn_network.specs.Boards.{BoardState, WiredBoard, board_of, at_node, changed}
+use Rattle.tn_network.specs.Boards.{BoardState, WiredBoard, board_of, at_node}
 use Rattle.tn_network.specs.NodeOps.{NodeOps, node_ops}
 use Rattle.tn_network.specs.Items.{item_ops}
 use Rattle.tn_network.specs.Steps.{ready, step, after_pick, made_by_pick}
@@ -87,6 +87,9 @@ module _ {M : Type 0} (access : Access M) (laws : IsSpace access) (fun : Fun) (o
 
     pub within : p < length nodes
     within = at_node-within nodes p (node_ops access).runs runs_here
+
+    pub item-runs : (x : NodeState M) → x ≡ slice_index_or nodes p x → (node_ops access).runs x ≡ true
+    item-runs x read = sym (at_node-read nodes p false (node_ops access).runs x within read) ∙ runs_here
 
     word : nat_lt clock (2 ^ 32) ≡ true
     word = grind (arith, nat_tests)

@@ -4,6 +4,7 @@ pub mod WireLaws
 pub mod LocalLaws
 pub mod NodeLaws
 pub mod BoardSteps
+pub mod BoardReads
 pub mod PickParts
 pub mod NewBoards
 pub mod PickOrder
