@@ -1,5 +1,7 @@
 -- The text of a module, piece by piece.
-use Rattle.std.proofs.Common.{◌≡◌, ℕ, List, [], ◌∷◌, ◌++◌, map, refl, sym, ap, ◌∙◌, append_assoc, append-nil}
+use Rattle.std.proofs.Common.{◌≡◌, ℕ, ◌+◌, ◌≤◌, ◌<◌, List, [], ◌∷◌, ◌++◌, length, get_or, take, map}
+use Rattle.std.proofs.Common.{refl, sym, ap, ◌∙◌, append_assoc, append-nil}
+use Rattle.std.proofs.lemmas.List.{take_more, take_all, map-append}
 use Rattle.std.specs.List.{flat_map, join_with_byte}
 use Rattle.std.proofs.lemmas.List.Concat.{flat_map-append}
 use Rattle.tn_module.specs.Modules.{Parts}
@@ -8,6 +10,33 @@ use Rattle.tn_modtext.specs.declared.lines.Line.TheVariants as line
 use Rattle.tn_modtext.specs.Forms.{form_word}
 use Rattle.tn_modtext.specs.Lines.{line_form, line_args, line_text, line_spelling, lines_of, spelling}
 use Rattle.tn_modtext.specs.Inner.Writing.{args_text}
+
+-- ---- the loops that put one thing after the other
+
+module _ {X : Type 0} (whole : List X → List ℕ) (text : X → List ℕ)
+    (grows : (ys : List X) (y : X) → whole (ys ++ y ∷ []) ≡ whole ys ++ text y)
+    (xs : List X) (start held : List ℕ) (k : ℕ) (so_far : held ≡ start ++ whole (take k xs)) where
+  -- one more
+  pub put-more : (x : X) (new : List ℕ) → k < length xs → x ≡ get_or xs k x → new ≡ held ++ text x → new ≡ start ++ whole (take (k + 1) xs)
+  put-more x new l x_is new_is =
+      let taken : take (k + 1) xs ≡ take k xs ++ x ∷ [] = take_more xs k x l ∙ ap (λ y. take k xs ++ y ∷ []) (sym x_is) in
+      new_is ∙ (ap (λ t. t ++ text x) so_far ∙ (append_assoc start (whole (take k xs)) (text x)
+      ∙ ap (λ t. start ++ t) (sym (grows (take k xs) x) ∙ ap whole (sym taken))))
+
+  -- all
+  pub put-all : length xs ≤ k → held ≡ start ++ whole xs
+  put-all past = so_far ∙ ap (λ ys. start ++ whole ys) (take_all k xs past)
+
+-- one text more
+pub text-grows : {X : Type 0} (text : X → List ℕ) (ys : List X) (y : X) → flat_map text (ys ++ y ∷ []) ≡ flat_map text ys ++ text y
+text-grows text ys y = flat_map-append text ys (y ∷ []) ∙ ap (λ t. flat_map text ys ++ t) (append-nil (text y))
+
+-- one line more
+pub lines-grow : {X : Type 0} (f : X → Line) (ys : List X) (y : X)
+    → flat_map line_spelling (map f (ys ++ y ∷ [])) ≡ flat_map line_spelling (map f ys) ++ line_spelling (f y)
+lines-grow f ys y = ap (flat_map line_spelling) (map-append f ys (y ∷ [])) ∙ text-grows line_spelling (map f ys) (f y)
+
+-- ---- a line
 
 -- tokens one blank apart are the first, and a blank before each other
 joined : (word : List ℕ) (args : List (List ℕ)) → join_with_byte 32 (word ∷ args) ≡ word ++ args_text args
@@ -26,6 +55,8 @@ line-written before with_word with_args after l one two three =
     ∙ (append_assoc (before ++ form_word (line_form l)) (args_text (line_args l)) (10 ∷ [])
     ∙ (append_assoc before (form_word (line_form l)) (args_text (line_args l) ++ 10 ∷ [])
     ∙ ap (λ t. before ++ t) (sym (append_assoc (form_word (line_form l)) (args_text (line_args l)) (10 ∷ [])))))))
+
+-- ---- a module
 
 single : (l : Line) → flat_map line_spelling (l ∷ []) ≡ line_spelling l
 single l = append-nil (line_spelling l)

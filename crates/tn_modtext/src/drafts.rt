@@ -2,7 +2,7 @@ ghost use Rattle.std.specs.Prelude.{◌≡◌, ◌<◌, ◌^◌, length, OnOk};
 ghost use Rattle.std.specs.Result.{result_map_both};
 ghost use Rattle.tn_module.specs.Modules.{module_of};
 ghost use Rattle.tn_text.specs.Reading.{Gives, placed};
-ghost use Rattle.tn_modtext.specs.Inner.Drafts.{drawn, blank, with_line, after, whole, parts_read};
+ghost use Rattle.tn_modtext.specs.Inner.Drafts.{drawn, blank, with_line, after, whole, draft_step, parts_read};
 ghost use Rattle.tn_modtext.specs.declared.lines.Line.TheVariants as line;
 ghost use Rattle.tn_modtext.specs.LineFaults.{is_end, lacks_end};
 
@@ -93,6 +93,36 @@ impl Draft {
         Ok(())
     }
 
+    /// Reads the line with this number.
+    fn read(
+        &mut self,
+        alloc: Global,
+        line: &[u8],
+        ended: bool,
+        number: u32,
+    ) -> Result<(), ReadFault>
+        ensures { Gives (λ _. drawn self.new) result (placed number (draft_step (drawn self.old) (line.now, ended))) }
+    {
+        let words = read_strict(alloc, line, ended, number)?;
+        match line_at(self.section, &words) {
+            Ok(line) => match self.add(&line) {
+                Ok(()) => Ok(()),
+                Err(NoMemory) => Err(ReadFault::NoMemory),
+            },
+            Err(cause) => Err(ReadFault::Fault(cause.at(number))),
+        }
+    }
+
+    /// The module's parts, where the next line would have this number.
+    fn finish_before(self, number: u32) -> Result<RawModule, ReadFault>
+        ensures { Gives module_of result (placed number (whole (drawn self))) }
+    {
+        match self.finish() {
+            Ok(raw) => Ok(raw),
+            Err(cause) => Err(ReadFault::Fault(cause.at(number))),
+        }
+    }
+
     /// The module's parts. A `Missing` comes where the last line was not read.
     pub(crate) fn finish(self) -> Result<RawModule, Cause>
         ensures { result_map_both module_of (λ cause. cause) result ≡ whole (drawn self) }
@@ -151,18 +181,10 @@ pub(crate) fn read_parts(alloc: Global, text: &[u8]) -> Result<RawModule, ReadFa
     let mut number = 0;
     while let Some((line, ended, behind)) = next_piece(rest) {
         number += 1;
-        let words = read_strict(alloc, line, ended, number)?;
-        match line_at(draft.section, &words) {
-            Ok(line) => match draft.add(&line) {
-                Ok(()) => {}
-                Err(NoMemory) => return Err(ReadFault::NoMemory),
-            },
-            Err(cause) => return Err(ReadFault::Fault(cause.at(number))),
+        match draft.read(alloc, line, ended, number) {
+            Ok(()) => rest = behind,
+            Err(fault) => return Err(fault),
         }
-        rest = behind;
     }
-    match draft.finish() {
-        Ok(raw) => Ok(raw),
-        Err(cause) => Err(ReadFault::Fault(cause.at(number + 1))),
-    }
+    draft.finish_before(number + 1)
 }

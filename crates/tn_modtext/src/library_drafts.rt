@@ -1,12 +1,12 @@
 ghost use Rattle.std.specs.Prelude.{◌≡◌, ◌<◌, ◌^◌, true, length, map, OnOk};
 ghost use Rattle.std.specs.Result.{result_map_both};
 ghost use Rattle.tn_module.specs.Modules.{module_of};
-ghost use Rattle.tn_text.specs.Reading.{Gives};
+ghost use Rattle.tn_text.specs.Reading.{Gives, placed};
 ghost use Rattle.tn_modtext.specs.declared.library_lines.LibraryLine.TheVariants as library_line;
 ghost use Rattle.tn_modtext.specs.LibraryFaults.{lacks_endlib, library_ends_at};
 ghost use Rattle.tn_modtext.specs.Inner.Drafts.{drawn};
 ghost use Rattle.tn_modtext.specs.Inner.LibraryDrafts.{drawn_library, blank_library, with_draft, after_library_line, whole_library};
-ghost use Rattle.tn_modtext.specs.Inner.LibraryDrafts.{library_read};
+ghost use Rattle.tn_modtext.specs.Inner.LibraryDrafts.{library_step, library_read};
 
 use crate::drafts::{Draft, is_end, lacks_end};
 use crate::library_lines::{LibraryLine, LibrarySection, library_line_at};
@@ -82,6 +82,36 @@ impl LibraryDraft {
         }
     }
 
+    /// Reads the line with this number.
+    fn read(
+        &mut self,
+        alloc: Global,
+        line: &[u8],
+        ended: bool,
+        number: u32,
+    ) -> Result<(), ReadFault>
+        ensures { Gives (λ _. drawn_library self.new) result (placed number (library_step (drawn_library self.old) (line.now, ended))) }
+    {
+        let words = read_strict(alloc, line, ended, number)?;
+        match library_line_at(self.section, &words) {
+            Ok(line) => match self.add(alloc, &line) {
+                Ok(()) => Ok(()),
+                Err(NoMemory) => Err(ReadFault::NoMemory),
+            },
+            Err(cause) => Err(ReadFault::Fault(cause.at(number))),
+        }
+    }
+
+    /// The modules' parts, where the next line would have this number.
+    fn finish_before(self, number: u32) -> Result<Vec<RawModule>, ReadFault>
+        ensures { Gives (λ raws. map module_of raws.items) result (placed number (whole_library (drawn_library self))) }
+    {
+        match self.finish() {
+            Ok(raws) => Ok(raws),
+            Err(cause) => Err(ReadFault::Fault(cause.at(number))),
+        }
+    }
+
     /// The modules' parts. A `Missing` comes where the last line was not read.
     fn finish(self) -> Result<Vec<RawModule>, Cause>
         ensures { result_map_both (λ raws. map module_of raws.items) (λ cause. cause) result ≡ whole_library (drawn_library self) }
@@ -125,18 +155,10 @@ pub(crate) fn read_library_parts(alloc: Global, text: &[u8]) -> Result<Vec<RawMo
     let mut number = 0;
     while let Some((line, ended, behind)) = next_piece(rest) {
         number += 1;
-        let words = read_strict(alloc, line, ended, number)?;
-        match library_line_at(draft.section, &words) {
-            Ok(line) => match draft.add(alloc, &line) {
-                Ok(()) => {}
-                Err(NoMemory) => return Err(ReadFault::NoMemory),
-            },
-            Err(cause) => return Err(ReadFault::Fault(cause.at(number))),
+        match draft.read(alloc, line, ended, number) {
+            Ok(()) => rest = behind,
+            Err(fault) => return Err(fault),
         }
-        rest = behind;
     }
-    match draft.finish() {
-        Ok(raws) => Ok(raws),
-        Err(cause) => Err(ReadFault::Fault(cause.at(number + 1))),
-    }
+    draft.finish_before(number + 1)
 }

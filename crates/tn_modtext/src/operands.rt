@@ -97,11 +97,12 @@ fn place_of_minus(token: &[u8]) -> Option<usize>
 pub(crate) fn push_item(items: &mut Vec<Item>, item: &Item) -> Result<(), NoMemory>
     ensures { OnOk result (items.new.items ≡ items.old.items ++ item.now ∷ []) }
 {
-    match item {
-        Item::Direct(fun, operand) => items.push(Item::Direct(*fun, *operand))?,
-        Item::Plain(op) => items.push(Item::Plain(*op))?,
-        Item::Byte(byte) => items.push(Item::Byte(*byte))?,
-        Item::Label(name) => items.push(Item::Label(*name))?,
-    }
+    let copy = match item {
+        Item::Direct(fun, operand) => Item::Direct(*fun, *operand),
+        Item::Plain(op) => Item::Plain(*op),
+        Item::Byte(byte) => Item::Byte(*byte),
+        Item::Label(name) => Item::Label(*name),
+    };
+    items.push(copy)?;
     Ok(())
 }
