@@ -1,3 +1,4 @@
+pub mod LinePuts
 pub mod Arguments
 pub mod Lines
 pub mod Collected

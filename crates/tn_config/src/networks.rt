@@ -10,7 +10,6 @@ use tn_text::Name;
 
 /// What a configuration says of a network. Of a configuration that was read, with at most 64
 /// processors, it is what `Network::check` takes.
-#[tactic(auto, using(crate::proofs::Described::described_is))]
 pub fn raw_network(alloc: Global, config: &Config) -> Result<RawNetwork, AllocError>
     ensures { IfOk result (λ raw. raw_of raw ≡ described (config_of config.now)) }
 {

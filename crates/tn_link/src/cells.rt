@@ -1,9 +1,9 @@
-ghost use Rattle.std.specs.Prelude.{◌≡◌, ℕ, ◌+◌, ◌-◌, ◌^◌, ◌<◌, ◌≤◌, List, ◌++◌, length, replicate, true, All, IfOk, OnOk};
+ghost use Rattle.std.specs.Prelude.{◌≡◌, ℕ, ◌+◌, ◌-◌, ◌^◌, ◌<◌, ◌≤◌, List, ◌++◌, length, take, replicate, true, All, IfOk, OnOk};
 ghost use Rattle.tn_text.specs.declared.limits.TheConstants.{CELL_LIMIT};
 ghost use Rattle.tn_module.specs.Names.{is_code, address_uses, end_of};
 ghost use Rattle.tn_layout.specs.Inner.Positions.{ArePositions};
 ghost use Rattle.tn_link.specs.Places.{item_count, cells_size, cells_end, told};
-ghost use Rattle.tn_link.specs.Cells.{address, cell_bytes, bytes_of_cells, cells};
+ghost use Rattle.tn_link.specs.Cells.{address, cell_bytes, bytes_of_cells, module_cells, cells};
 ghost use Rattle.tn_link.specs.Inner.Tables.{found, AreFound, AreNear};
 ghost use Rattle.tn_link.specs.Inner.Frames.{IsFrame, frame_of};
 ghost use Rattle.tn_link.specs.Inner.Plans.{IsPlan};
@@ -33,19 +33,40 @@ pub(crate) fn cells(alloc: Global, plan: &Plan<'_>, frame: &Frame<'_>) -> Result
     ensures long { IfOk result (λ bytes. length bytes.items ≡ cells_end plan.now.modules.now) }
 {
     let mut bytes = Vec::new(alloc);
-    for (m, module) in plan.modules.iter().enumerate() {
-        let raw = module.raw();
-        let start = plan.starts[m];
-        let own = labels(alloc, raw, start)?;
-        let scope = Scope {
-            labels: &own,
-            exports: plan.exports,
-        };
-        let gap = start.cell as usize - bytes.len();
-        add_zeros(&mut bytes, gap)?;
-        add_cells(&mut bytes, &scope, frame, &raw.cells)?;
+    for m in 0..plan.modules.len() {
+        add_module(alloc, &mut bytes, plan, frame, m)?;
     }
     Ok(bytes)
+}
+
+/// Puts the cells of module `m` to those of the modules before it, from the next multiple of 4 on.
+fn add_module(
+    alloc: Global,
+    bytes: &mut Vec<u8>,
+    plan: &Plan<'_>,
+    frame: &Frame<'_>,
+    m: usize,
+) -> Result<(), NoMemory>
+    requires here { m < length plan.now.modules.now }
+    requires before { length bytes.old.items ≡ cells_end (take m plan.now.modules.now) }
+    requires plan { IsPlan plan.now }
+    requires frame { IsFrame (item_count plan.now.modules.now) frame.now }
+    ensures cells { OnOk result ((sizes : List ℕ) → ArePositions sizes frame.now.positions.now
+        → bytes.new.items ≡ bytes.old.items ++ module_cells plan.now.modules.now (frame_of frame.now sizes) m) }
+    ensures long { OnOk result (length bytes.new.items ≡ cells_end (take (m + 1) plan.now.modules.now)) }
+{
+    let module = &plan.modules[m];
+    let raw = module.raw();
+    let start = plan.starts[m];
+    let gap = start.cell as usize - bytes.len();
+    add_zeros(bytes, gap)?;
+    let own = labels(alloc, raw, start)?;
+    let scope = Scope {
+        labels: &own,
+        exports: plan.exports,
+    };
+    add_cells(bytes, &scope, frame, &raw.cells)?;
+    Ok(())
 }
 
 /// Puts the cells of a module that knows these names to the others.

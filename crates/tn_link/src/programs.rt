@@ -1,8 +1,8 @@
-ghost use Rattle.std.specs.Prelude.{◌≡◌, ◌++◌, map, is_some, true, All, IfOk, OnOk};
+ghost use Rattle.std.specs.Prelude.{◌≡◌, ◌<◌, ◌++◌, length, map, is_some, true, All, IfOk, OnOk};
 ghost use Rattle.tn_text.specs.declared.limits.TheConstants.{ITEM_LIMIT};
 ghost use Rattle.tn_module.specs.Names.{code_uses, cell_uses};
 ghost use Rattle.tn_link.specs.Places.{told};
-ghost use Rattle.tn_link.specs.Programs.{reach, element, program};
+ghost use Rattle.tn_link.specs.Programs.{reach, element, module_elements, program};
 ghost use Rattle.tn_link.specs.Linking.{IsBase};
 ghost use Rattle.tn_link.specs.Inner.Tables.{found, AreFound, AreNear};
 ghost use Rattle.tn_link.specs.Inner.Elements.{IsUsable, AreFit};
@@ -46,16 +46,34 @@ pub(crate) fn program(
     ensures fit { IfOk result (λ elements. AreFit elements.items) }
 {
     let mut elements = Vec::new(alloc);
-    for (m, module) in plan.modules.iter().enumerate() {
-        let raw = module.raw();
-        let own = labels(alloc, raw, plan.starts[m])?;
-        let scope = Scope {
-            labels: &own,
-            exports: plan.exports,
-        };
-        add_elements(&mut elements, &scope, cell_base, &raw.items)?;
+    for m in 0..plan.modules.len() {
+        add_module(alloc, &mut elements, plan, m, cell_base)?;
     }
     Ok(elements)
+}
+
+/// Puts the items of module `m` to the others.
+fn add_module(
+    alloc: Global,
+    elements: &mut Vec<Element>,
+    plan: &Plan<'_>,
+    m: usize,
+    cell_base: u32,
+) -> Result<(), NoMemory>
+    requires here { m < length plan.now.modules.now }
+    requires plan { IsPlan plan.now }
+    requires base { IsBase cell_base }
+    ensures { OnOk result (elements.new.items ≡ elements.old.items ++ module_elements plan.now.modules.now cell_base m) }
+{
+    let module = &plan.modules[m];
+    let raw = module.raw();
+    let own = labels(alloc, raw, plan.starts[m])?;
+    let scope = Scope {
+        labels: &own,
+        exports: plan.exports,
+    };
+    add_elements(elements, &scope, cell_base, &raw.items)?;
+    Ok(())
 }
 
 /// Puts the items of a module that knows these names to the others.

@@ -184,10 +184,26 @@ pub(crate) fn exports(
     let mut table = IndexMap::new(alloc);
     for (m, module) in modules.iter().enumerate() {
         let raw = module.raw();
-        let own = labels(alloc, raw, starts[m])?;
-        add_exports(&mut table, &own, &raw.exports)?;
+        add_module(alloc, &mut table, raw, starts[m])?;
     }
     Ok(table)
+}
+
+/// Notes what the exports of a module stand for that begins there, if they are not yet known.
+fn add_module(
+    alloc: Global,
+    table: &mut IndexMap<Name, Target>,
+    raw: &RawModule,
+    start: Start,
+) -> Result<(), NoMemory>
+    requires items { start.item + length raw.now.items.items ≤ ITEM_LIMIT }
+    requires cells { start.cell + cells_size raw.now.cells.items ≤ CELL_LIMIT }
+    ensures { OnOk result ((name : List ℕ) → get same_name table.new name ≡ option_or (get same_name table.old name)
+        (if is_among raw.now.exports.items name then label_in (module_of raw.now) start name else None)) }
+{
+    let own = labels(alloc, raw, start)?;
+    add_exports(table, &own, &raw.exports)?;
+    Ok(())
 }
 
 /// Notes what these exports stand for by their module's labels, if they are not yet known.

@@ -101,7 +101,6 @@ impl Chosen {
 /// The fault is `Duplicate` at the first export, in the order of the list, whose name an earlier
 /// chosen module exports. Where there is none it is the first import at fault: `Undefined` where no
 /// chosen module exports its name, `WrongKind` where the name's definition is of the other kind.
-#[tactic(auto, using(crate::proofs::OneChoice::one_is_chosen))]
 pub fn choose(
     alloc: Global,
     pool: &[Module],
@@ -131,7 +130,6 @@ pub fn choose(
 }
 
 /// The sources of the chosen modules, whether or not their names are at fault.
-#[tactic(auto, using(crate::proofs::OneChoice::one_is_chosen))]
 pub fn chosen_sources(
     alloc: Global,
     pool: &[Module],

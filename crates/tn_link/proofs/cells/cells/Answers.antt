@@ -1,148 +1,15 @@
-use Rattle.std.proofs.Common.{◌≡◌, ◌-◌, ◌++◌, List, ℕ, Option, length, take, get_or, ap, ◌∙◌, arith, append_assoc}
-use Rattle.std.specs.Prelude.{replicate}
-use Rattle.std.specs.Option.{option_or}
-use Rattle.std.proofs.lemmas.List.{length-append, length-replicate}
-use Rattle.indexmap.specs.IndexMap.{get}
-use Rattle.tn_module.specs.declared.modules.Cell.{Cell}
-use Rattle.tn_module.specs.Modules.{Parts, module_of}
-use Rattle.tn_module.specs.Names.{same_name}
-use Rattle.tn_symbols.specs.Choices.{module_at}
-use Rattle.tn_symbols.proofs.FirstFaults.{part-at}
-use Rattle.tn_link.specs.declared.tables.Start.{Start}
-use Rattle.tn_link.specs.declared.tables.Target.{Target}
-use Rattle.tn_link.specs.Places.{cells_size, cells_end, start, told, target}
-use Rattle.tn_link.specs.Cells.{bytes_of_cells, module_cells}
+use Rattle.tn_link.specs.Cells.{module_cells}
 use Rattle.tn_link.specs.Inner.Frames.{frame_of}
-use Rattle.tn_link.proofs.Ends.{starts-long, start-at, start_from, items-fit, cells-fit, cells-within, ends-more}
 use Rattle.tn_link.proofs.Ranges.{joined-grown}
-use Rattle.tn_link.proofs.Fitness.{tables-are, near-tables, usable-cells_by}
 use Rattle.tn_link.proofs.cells.cells.Goals as goal
 
-pub bounds-plan-m : goal.bounds-plan-m
-bounds-plan-m c = starts-long c.args.plan.now.modules.now c.args.plan.now.starts.now c.requires.plan.starts c.loop-m.m c.loop-m-test.true
-
-pub labels-requires-clause-items : goal.labels-requires-clause-items
-labels-requires-clause-items c =
-    items-fit c.args.plan.now.modules.now c.args.plan.now.starts.now c.requires.plan.starts c.loop-m.m c.loop-m-test.true _
-    (module_of c.raw-raw.result.now)
-    (part-at (λ (p : Parts). p) c.args.plan.now.modules.now c.loop-m.m (module_of c.raw-raw.result.now) c.module-item.result
-    c.loop-m-test.true
-    c.module-item.is c.raw-raw.ensures.parts) c.requires.plan.items
-
-pub labels-requires-clause-cells : goal.labels-requires-clause-cells
-labels-requires-clause-cells c =
-    cells-fit c.args.plan.now.modules.now c.args.plan.now.starts.now c.requires.plan.starts c.loop-m.m c.loop-m-test.true _
-    (module_of c.raw-raw.result.now)
-    (part-at (λ (p : Parts). p) c.args.plan.now.modules.now c.loop-m.m (module_of c.raw-raw.result.now) c.module-item.result
-    c.loop-m-test.true
-    c.module-item.is c.raw-raw.ensures.parts) c.requires.plan.cells
-
-pub overflow_sub-gap : goal.overflow_sub-gap
-overflow_sub-gap c = omega (
-  arith,
-  c.len.ensures,
-  c.loop-m.bytes.ok,
-  c.loop-m.invariant.long,
-  ap (λ (s : Start). s.cell)
-      (start-at c.args.plan.now.modules.now c.args.plan.now.starts.now c.requires.plan.starts c.loop-m.m c.loop-m-test.true
-      (start_from 0 0)),
-)
-
-pub add_cells-requires-clause-near : goal.add_cells-requires-clause-near
-add_cells-requires-clause-near c =
-    near-tables c.args.plan.now.modules.now c.args.plan.now.starts.now c.requires.plan.starts c.loop-m.m c.loop-m-test.true
-    (module_of c.raw-raw.result.now)
-    (part-at (λ (p : Parts). p) c.args.plan.now.modules.now c.loop-m.m (module_of c.raw-raw.result.now) c.module-item.result
-    c.loop-m-test.true
-    c.module-item.is c.raw-raw.ensures.parts) (get same_name c.in_ok-own.own) (get same_name c.args.plan.now.exports.now)
-    c.in_ok-own.ensures
-    c.requires.plan.exports c.requires.plan.items c.requires.plan.cells _ (omega (arith, c.requires.frame.as_many))
-
-pub add_cells-requires-clause-usable : goal.add_cells-requires-clause-usable
-add_cells-requires-clause-usable c =
-    usable-cells_by c.args.plan.now.modules.now c.args.plan.now.starts.now c.requires.plan.starts c.loop-m.m c.loop-m-test.true
-    (module_of c.raw-raw.result.now)
-    (part-at (λ (p : Parts). p) c.args.plan.now.modules.now c.loop-m.m (module_of c.raw-raw.result.now) c.module-item.result
-    c.loop-m-test.true
-    c.module-item.is c.raw-raw.ensures.parts) (get same_name c.in_ok-own.own) (get same_name c.args.plan.now.exports.now)
-    c.in_ok-own.ensures
-    c.requires.plan.exports c.requires.plan.valid c.requires.plan.linkable.defined c.deref.result.now c.deref.ensures.value
-
-pub add_cells-requires-clause-few : goal.add_cells-requires-clause-few
-add_cells-requires-clause-few c =
-    let same = part-at (λ (p : Parts). p) c.args.plan.now.modules.now c.loop-m.m (module_of c.raw-raw.result.now) c.module-item.result
-    c.loop-m-test.true c.module-item.is c.raw-raw.ensures.parts in
-    omega (
-      arith,
-      ap (λ (l : List Cell). cells_size l) (c.deref.ensures.value ∙ ap (λ (p : Parts). p.cells) same),
-      cells-within c.args.plan.now.modules.now c.loop-m.m c.loop-m-test.true,
-      c.requires.plan.cells,
-    )
-
-pub add_cells-requires-clause-room : goal.add_cells-requires-clause-room
-add_cells-requires-clause-room c = omega (
-  arith,
-  ap length c.in_ok-add_zeros.ensures,
-  length-append c.loop-m.bytes.items (replicate
-      ((get_or c.args.plan.now.starts.now c.loop-m.m (start_from 0 0)).cell - c.len.result) 0),
-  length-replicate {A = ℕ} ((get_or c.args.plan.now.starts.now c.loop-m.m (start_from 0 0)).cell - c.len.result) 0,
-  c.len.ensures,
-  c.loop-m.bytes.ok,
-  c.loop-m.invariant.long,
-  ap (λ (s : Start). s.cell)
-      (start-at c.args.plan.now.modules.now c.args.plan.now.starts.now c.requires.plan.starts c.loop-m.m c.loop-m-test.true
-      (start_from 0 0)),
-  cells-within c.args.plan.now.modules.now c.loop-m.m c.loop-m-test.true,
-  c.requires.plan.cells,
-)
+pub add_module-requires-clause-before : goal.add_module-requires-clause-before
+add_module-requires-clause-before c = c.loop-m.invariant.long
 
 pub loop-m-preserved : goal.loop-m-preserved
-loop-m-preserved c =
-    let same : module_of c.raw-raw.result.now ≡ module_at c.args.plan.now.modules.now c.loop-m.m = part-at (λ (p : Parts). p)
-    c.args.plan.now.modules.now c.loop-m.m (module_of c.raw-raw.result.now) c.module-item.result c.loop-m-test.true c.module-item.is
-    c.raw-raw.ensures.parts in
-    let begins = ap (λ (s : Start). s.cell)
-    (start-at c.args.plan.now.modules.now c.args.plan.now.starts.now c.requires.plan.starts c.loop-m.m c.loop-m-test.true
-    (start_from 0 0)) in
-    let gap : (get_or c.args.plan.now.starts.now c.loop-m.m (start_from 0 0)).cell - c.len.result
-    ≡ (start c.args.plan.now.modules.now c.loop-m.m).cell - cells_end (take c.loop-m.m c.args.plan.now.modules.now) = omega
-    (arith, c.len.ensures, c.loop-m.bytes.ok, c.loop-m.invariant.long, begins) in
-    let listed = c.deref.ensures.value ∙ ap (λ (p : Parts). p.cells) same in
-    let tables = tables-are c.args.plan.now.modules.now c.args.plan.now.starts.now c.requires.plan.starts c.loop-m.m c.loop-m-test.true
-    (module_of c.raw-raw.result.now) same (get same_name c.in_ok-own.own) (get same_name c.args.plan.now.exports.now) c.in_ok-own.ensures
-    c.requires.plan.exports in
-    record {
-      cells = λ sizes p.
-          joined-grown (module_cells c.args.plan.now.modules.now (frame_of c.args.frame.now sizes)) c.loop-m.m c.loop-m.bytes.items
-          c.add_cells.new.bytes.items (c.loop-m.invariant.cells sizes p)
-          (c.in_ok-add_cells.ensures.bytes sizes p
-          ∙ ap (λ (l : List ℕ). l ++ bytes_of_cells (frame_of c.args.frame.now sizes)
-          (told (λ (q : List ℕ). option_or (get same_name c.in_ok-own.own q) (get same_name c.args.plan.now.exports.now q)))
-          c.deref.result.now
-          (length c.deref.result.now)) c.in_ok-add_zeros.ensures
-          ∙ ap (λ (f : List ℕ → Option Target). (c.loop-m.bytes.items ++ replicate
-          ((get_or c.args.plan.now.starts.now c.loop-m.m (start_from 0 0)).cell - c.len.result) 0)
-          ++ bytes_of_cells (frame_of c.args.frame.now sizes) (told f) c.deref.result.now (length c.deref.result.now)) tables
-          ∙ ap (λ (l : List Cell). (c.loop-m.bytes.items ++ replicate
-          ((get_or c.args.plan.now.starts.now c.loop-m.m (start_from 0 0)).cell - c.len.result) 0)
-          ++ bytes_of_cells (frame_of c.args.frame.now sizes) (target c.args.plan.now.modules.now c.loop-m.m) l (length l)) listed
-          ∙ ap (λ n. (c.loop-m.bytes.items ++ replicate n 0)
-          ++ bytes_of_cells (frame_of c.args.frame.now sizes) (target c.args.plan.now.modules.now c.loop-m.m)
-          (module_at c.args.plan.now.modules.now c.loop-m.m).cells (length (module_at c.args.plan.now.modules.now c.loop-m.m).cells)) gap
-          ∙ append_assoc c.loop-m.bytes.items
-          (replicate ((start c.args.plan.now.modules.now c.loop-m.m).cell - cells_end (take c.loop-m.m c.args.plan.now.modules.now)) 0)
-          (bytes_of_cells (frame_of c.args.frame.now sizes) (target c.args.plan.now.modules.now c.loop-m.m)
-          (module_at c.args.plan.now.modules.now c.loop-m.m).cells (length (module_at c.args.plan.now.modules.now c.loop-m.m).cells)));
-      long = omega (
-        arith,
-        c.in_ok-add_cells.ensures.long,
-        ap (λ (l : List Cell). cells_size l) listed,
-        ap length c.in_ok-add_zeros.ensures,
-        length-append c.loop-m.bytes.items (replicate
-            ((get_or c.args.plan.now.starts.now c.loop-m.m (start_from 0 0)).cell - c.len.result) 0),
-        length-replicate {A = ℕ} ((get_or c.args.plan.now.starts.now c.loop-m.m (start_from 0 0)).cell - c.len.result) 0,
-        gap,
-        c.loop-m.invariant.long,
-        ends-more c.args.plan.now.modules.now c.loop-m.m c.loop-m-test.true,
-      );
-    }
+loop-m-preserved c = record {
+  cells = λ sizes p.
+      joined-grown (module_cells c.args.plan.now.modules.now (frame_of c.args.frame.now sizes)) c.loop-m.m c.loop-m.bytes.items
+      c.add_module.new.bytes.items (c.loop-m.invariant.cells sizes p) (c.in_ok-add_module.ensures.cells sizes p);
+  long = c.in_ok-add_module.ensures.long;
+}

@@ -16,14 +16,14 @@ use Rattle.tn_link.proofs.tables.exports.Goals as goal
 pub bounds-starts-m : goal.bounds-starts-m
 bounds-starts-m c = starts-long c.args.modules.now c.args.starts.now c.requires.starts c.loop-m.m c.loop-m-test.true
 
-pub labels-requires-clause-items : goal.labels-requires-clause-items
-labels-requires-clause-items c =
+pub add_module-requires-clause-items : goal.add_module-requires-clause-items
+add_module-requires-clause-items c =
     items-fit c.args.modules.now c.args.starts.now c.requires.starts c.loop-m.m c.loop-m-test.true _ (module_of c.raw-raw.result.now)
     (part-at (λ (p : Parts). p) c.args.modules.now c.loop-m.m (module_of c.raw-raw.result.now) c.index-modules-m.result c.loop-m-test.true
     c.index-modules-m.is c.raw-raw.ensures.parts) c.requires.items
 
-pub labels-requires-clause-cells : goal.labels-requires-clause-cells
-labels-requires-clause-cells c =
+pub add_module-requires-clause-cells : goal.add_module-requires-clause-cells
+add_module-requires-clause-cells c =
     cells-fit c.args.modules.now c.args.starts.now c.requires.starts c.loop-m.m c.loop-m-test.true _ (module_of c.raw-raw.result.now)
     (part-at (λ (p : Parts). p) c.args.modules.now c.loop-m.m (module_of c.raw-raw.result.now) c.index-modules-m.result c.loop-m-test.true
     c.index-modules-m.is c.raw-raw.ensures.parts) c.requires.cells
@@ -36,15 +36,11 @@ loop-m-preserved c =
     record {
       valid = below_more _ _ c.loop-m.invariant.valid (subst IsValid (sym c.raw-raw.ensures.parts ∙ same) c.raw-raw.ensures.valid);
       told = λ q. exports-grown c.args.modules.now c.loop-m.m c.loop-m-test.true c.loop-m.invariant.valid q
-          (get same_name c.loop-m.table q) (get same_name c.add_exports.new.table q) (c.loop-m.invariant.told q)
-          (c.in_ok-add_exports.ensures q
-          ∙ ap (λ (l : List (List ℕ)). option_or (get same_name c.loop-m.table q) (if is_among l q then get same_name
-          c.in_ok-own.own q else None))
-          (c.deref.ensures.value ∙ ap (λ (p : Parts). p.exports) same)
-          ∙ ap (λ (o : Option Target). option_or (get same_name c.loop-m.table q)
-          (if is_among (module_at c.args.modules.now c.loop-m.m).exports q then o else None))
-          (c.in_ok-own.ensures q
-          ∙ ap (λ (p : Parts). label_in p (get_or c.args.starts.now c.loop-m.m (start_from 0 0)) q) same
-          ∙ ap (λ (s : Start). label_in (module_at c.args.modules.now c.loop-m.m) s q)
-          (start-at c.args.modules.now c.args.starts.now c.requires.starts c.loop-m.m c.loop-m-test.true (start_from 0 0))));
+          (get same_name c.loop-m.table q) (get same_name c.add_module.new.table q) (c.loop-m.invariant.told q)
+          (c.in_ok-add_module.ensures q
+          ∙ ap (λ (p : Parts). option_or (get same_name c.loop-m.table q) (if is_among p.exports q then label_in p
+          (get_or c.args.starts.now c.loop-m.m (start_from 0 0)) q else None)) same
+          ∙ ap (λ (s : Start). option_or (get same_name c.loop-m.table q)
+          (if is_among (module_at c.args.modules.now c.loop-m.m).exports q then label_in (module_at c.args.modules.now c.loop-m.m) s q
+          else None)) (start-at c.args.modules.now c.args.starts.now c.requires.starts c.loop-m.m c.loop-m-test.true (start_from 0 0)));
     }
