@@ -80,31 +80,33 @@ pub fn replay<O: Out>(
         programs,
         images,
     };
-    do_lines(alloc, &lookup, schedule, net, out)
+    let mut symbolic = None;
+    do_lines(alloc, &lookup, schedule, net, &mut symbolic, out)
 }
 
-/// The same, looking things up there.
+/// The same, looking things up there, where no symbolic network goes beside yet.
 fn do_lines<O: Out>(
     alloc: Global,
     lookup: &Lookup,
     schedule: &Schedule,
     net: &mut Net,
+    symbolic: &mut Option<SymNet>,
     out: &mut O,
 ) -> Result<Summary, ReplayFault>
     requires wires { net.old.board.network ≡ lookup.now.network.now }
     requires known { IsKnownOf net.old.board.network (known_in lookup.now) }
+    requires alone { symbolic.old ≡ None }
     requires placed { ArePlaced (length lookup.now.names.now) schedule.now.lines.items }
     requires few { length schedule.now.lines.items < 2 ^ 31 }
     ensures replays { Replays (known_in lookup.now) schedule.now.lines.items (beginning net.old)
         result net.new (O.printed out.old) (O.printed out.new) }
     ensures goes_on { O.goes_on out.old out.new }
 {
-    let mut symbolic = None;
     let mut steps = 0;
     let mut index = 0;
     let mut rest = schedule.lines.as_slice();
     while let Some((line, behind)) = rest.split_first() {
-        match replay_line(alloc, lookup, line.act, net, &mut symbolic, steps, out) {
+        match replay_line(alloc, lookup, line.act, net, symbolic, steps, out) {
             Ok(made) => {
                 steps = made;
                 index += 1;

@@ -7,6 +7,7 @@ pub mod NetsBeside
 pub mod Wholes
 pub mod WholeBeginnings
 pub mod Lists
+pub mod Pushing
 pub mod Elements
 pub mod LinkedCode
 pub mod Sameness

@@ -37,7 +37,6 @@ use tn_text::{Detail, Fault, FaultCode, FileName, ReadFault};
 /// image, in the file of the configuration. Then that of the network, in the file of the
 /// configuration. Then `Unreachable`, at the line of the first processor that no path leads to, with
 /// its name.
-#[tactic(auto, using(crate::proofs::OneAnswer::one_answers))]
 pub fn system(
     alloc: Global,
     config_file: &FileName,

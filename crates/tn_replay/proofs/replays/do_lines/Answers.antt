@@ -1,8 +1,9 @@
-use Rattle.std.proofs.Common.{◌≡◌, ◌∙◌, List, [], ◌∷◌, length, All, Err, refl, sym, ap, subst, arith}
+use Rattle.std.proofs.Common.{◌≡◌, ◌∙◌, List, [], ◌∷◌, length, All, Option, Err, refl, sym, ap, subst, arith}
 use Rattle.std.proofs.lemmas.List.Elements.{All-head, All-tail}
 use Rattle.tn_net.specs.Networks.{NetworkState}
 use Rattle.tn_schedule.specs.declared.acts.Line.{Line}
 use Rattle.tn_replay.specs.declared.replays.ReplayFault.{ReplayFault}
+use Rattle.tn_sym.specs.Symbolic.{SymbolicState}
 use Rattle.tn_schedule.specs.Schedules.{IsPlaced}
 use Rattle.tn_replay.specs.Replays.{beginning}
 use Rattle.tn_replay.specs.ReplayEnds.{IsKnownOf, Replays}
@@ -20,7 +21,8 @@ loop-line-init g c =
     let before = g.O.Out.printed c.args.out.now in
     let same : lines ≡ c.as_slice-rest.result.now = sym c.as_slice-rest.ensures.value in
     let long : length lines ≡ length c.as_slice-rest.result.now = ap (λ (ls : List Line). length ls) same in (
-      subst (λ (ls : List Line). SoFar k lines s s ls 0 before before) same (far_none k lines s before),
+      subst (λ (o : Option SymbolicState). SoFar k lines s (state_of c.args.net.now o 0) c.as_slice-rest.result.now 0 before before)
+          (sym c.requires.alone) (subst (λ (ls : List Line). SoFar k lines s s ls 0 before before) same (far_none k lines s before)),
       subst (λ (ls : List Line). All (λ line. IsPlaced (length c.args.lookup.now.names.now) line.act) ls) same c.requires.placed,
       omega (arith, long),
       g.met.O.Out.stays c.args.out.now,

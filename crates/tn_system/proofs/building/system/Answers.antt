@@ -12,10 +12,22 @@ use Rattle.tn_stream.specs.Images.{image_of, images_of}
 use Rattle.tn_system.specs.declared.systems.SystemFault.TheVariants as fault
 use Rattle.tn_system.specs.Sources.{sources}
 use Rattle.tn_system.specs.Systems.{IsProcessorImage}
-use Rattle.tn_system.specs.Faults.{unreachable, IsSystemFault, at_network, at_tree}
+use Rattle.tn_system.specs.Faults.{unreachable, IsProcessorFault, IsSystemFault, at_processor, at_network, at_tree}
 use Rattle.tn_system.proofs.Telling.{if-weaker}
 use Rattle.tn_system.proofs.EachProcessor.{have-images}
+use Rattle.tn_system.proofs.OneAnswer.{one_answers}
 use Rattle.tn_system.proofs.building.system.Goals as goal
+
+pub returns-in-Err-clause-one : goal.returns-in-Err-clause-one
+returns-in-Err-clause-one c = λ s admitted. one_answers s admitted
+
+pub returns-in-Err-clause-fault : goal.returns-in-Err-clause-fault
+returns-in-Err-clause-fault c =
+    let s = sources c.args.config_file.now c.args.config.now c.args.pool.now c.args.shelf.now in
+    if-weaker (IsProcessorFault s) (IsSystemFault s) c.in-Err.fault (λ told h. at_processor h) c.in-Err.ensures.fault
+
+pub returns-in-Err-network-clause-one : goal.returns-in-Err-network-clause-one
+returns-in-Err-network-clause-one c = λ s admitted. one_answers s admitted
 
 pub returns-in-Err-network-clause-fault : goal.returns-in-Err-network-clause-fault
 returns-in-Err-network-clause-fault c =
@@ -55,3 +67,24 @@ returns-in-Err-tree-clause-fault c =
       first = h.1;
       told = h.2;
     })) c.in-Err-tree.ensures.fault
+
+pub returns-in-Err-tree-clause-one : goal.returns-in-Err-tree-clause-one
+returns-in-Err-tree-clause-one c = λ s admitted. one_answers s admitted
+
+pub returns-in-Ok-tree-clause-one : goal.returns-in-Ok-tree-clause-one
+returns-in-Ok-tree-clause-one c = λ s admitted. one_answers s admitted
+
+pub returns-in-Ok-tree-clause-system : goal.returns-in-Ok-tree-clause-system
+returns-in-Ok-tree-clause-system c = record {
+  images = c.in-Ok.ensures.made;
+  short = c.in-Ok.ensures.images;
+  plain = c.in-Ok.ensures.plain;
+  programs = c.in-Ok.ensures.programs;
+  belong = c.in-Ok.ensures.belong;
+  faultless = c.in-Ok-network.ensures.faultless;
+  network = c.in-Ok-network.ensures.network;
+  pairing = c.in-Ok-network.ensures.pairing;
+  tree = c.in-Ok-tree.ensures.tree;
+  whole = subst (IsWholeTree c.in-Ok-tree.tree.nodes.items) (sym (length-map c.args.config.now.blocks.items block_of))
+      c.in-Ok-tree.ensures.whole;
+}

@@ -1,10 +1,13 @@
-use Rattle.std.proofs.Common.{◌<◌, length, get_or, ap, ◌∙◌, subst}
+use Rattle.std.proofs.Common.{◌≡◌, ℕ, ◌≤◌, ◌<◌, List, length, map, take, get_or, ap, ◌∙◌, subst}
+use Rattle.std.specs.List.{AllZip}
+use Rattle.std.proofs.lemmas.List.{take_all}
 use Rattle.tn_symbols.specs.Sources.{offer}
+use Rattle.tn_config.specs.declared.configurations.Block.{Block}
 use Rattle.tn_config.specs.Configurations.{block_of}
 use Rattle.tn_stream.specs.Images.{image_of, images_of}
 use Rattle.tn_system.specs.Sources.{sources}
 use Rattle.tn_sym.specs.ProgramStates.{program_of}
-use Rattle.tn_system.specs.Systems.{IsImageOf, IsProgramOf}
+use Rattle.tn_system.specs.Systems.{programs_of, IsImageOf, IsProcessorImage, IsPlainFor, IsProgramOf, IsProcessorProgram}
 use Rattle.tn_system.specs.Faults.{IsModulesFault, IsProcessorFault}
 use Rattle.tn_system.specs.Inner.Offers.{OfChoice}
 use Rattle.tn_system.proofs.Telling.{if-weaker}
@@ -64,3 +67,27 @@ loop-k-preserved c =
       belong-pushed c.loop-k.programs.items c.push-in-loop-k.new.self.items c.in-Ok.made.program c.loop-k.images.items c.push.new.self.items
           c.in-Ok.made.image c.in_ok-push-2.ensures.items c.in_ok-push.ensures.items c.loop-k.invariant.2 c.in-Ok.ensures.belong,
     )
+
+-- all blocks were gone through
+all-gone : (items blocks : List Block) → items ≡ blocks → (k : ℕ) → length items ≤ k → take k blocks ≡ blocks
+all-gone items blocks same k past = take_all k blocks (subst (λ (bs : List Block). length bs ≤ k) same past)
+
+pub returns-clause-made : goal.returns-clause-made
+returns-clause-made c =
+    let s = sources c.args.config_file.now c.args.config.now c.args.pool.now c.args.shelf.now in
+    subst (λ (bs : List Block). AllZip (IsProcessorImage s) (map block_of bs) (images_of c.loop-k.images.items))
+    (all-gone c.deref-block-items.result.now c.args.config.now.blocks.items c.deref-block-items.ensures.value c.loop-k.k
+    c.loop-k-test.false) c.loop-k.invariant.0.0
+
+pub returns-clause-programs : goal.returns-clause-programs
+returns-clause-programs c =
+    let s = sources c.args.config_file.now c.args.config.now c.args.pool.now c.args.shelf.now in
+    subst (λ (bs : List Block). AllZip (IsProcessorProgram s) (map block_of bs) (programs_of c.loop-k.programs.items))
+    (all-gone c.deref-block-items.result.now c.args.config.now.blocks.items c.deref-block-items.ensures.value c.loop-k.k
+    c.loop-k-test.false) c.loop-k.invariant.1
+
+pub returns-clause-plain : goal.returns-clause-plain
+returns-clause-plain c =
+    subst (λ (bs : List Block). AllZip IsPlainFor (map block_of bs) (images_of c.loop-k.images.items))
+    (all-gone c.deref-block-items.result.now c.args.config.now.blocks.items c.deref-block-items.ensures.value c.loop-k.k
+    c.loop-k-test.false) c.loop-k.invariant.0.2
