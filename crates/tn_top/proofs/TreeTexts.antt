@@ -4,7 +4,7 @@ use Rattle.std.proofs.Common.{◌≡◌, ℕ, zero, suc, ◌+◌, ◌<◌, ◌�
 use Rattle.std.proofs.Common.{ap, ap₂, ◌∙◌, arith, codes, map}
 use Rattle.std.specs.Prelude.{slice_index}
 use Rattle.std.specs.List.{range_with_len}
-use Rattle.std.proofs.lemmas.List.{map-append, take_more}
+use Rattle.std.proofs.lemmas.List.{map-append, take_more, take_all}
 use Rattle.std.proofs.lemmas.List.FromFn.{get_or-map-range_with_len, map-range_with_len_more}
 use Rattle.tn_config.specs.declared.configurations.Block.{Block}
 use Rattle.tn_config.specs.Configurations.{block_of}
@@ -51,17 +51,16 @@ pub names-same : (blocks : List Block) → map (λ b. b.name) (map block_of bloc
 names-same [] = refl
 names-same (b ∷ bs) = ap (λ names. b.name ∷ names) (names-same bs)
 
--- one name more
-pub names-more : (blocks : List Block) (i : ℕ) (b : Block) (now new : List (List ℕ)) → i < length blocks → b ≡ get_or blocks i b
-    → now ≡ map (λ (x : Block). x.name) (take i blocks) → new ≡ now ++ b.name ∷ [] → new ≡ map (λ (x : Block). x.name) (take (i + 1) blocks)
-names-more blocks i b now new inside is so_far more =
-    more ∙ (ap (λ xs. xs ++ b.name ∷ []) so_far ∙ sym (cut blocks i b inside is))
-  where
-    cut : (xs : List Block) (k : ℕ) (x : Block) → k < length xs → x ≡ get_or xs k x
-        → map (λ (y : Block). y.name) (take (k + 1) xs) ≡ map (λ (y : Block). y.name) (take k xs) ++ x.name ∷ []
-    cut xs k x h e =
-        ap (map (λ (y : Block). y.name)) (take_more xs k x h ∙ ap (λ y. take k xs ++ y ∷ []) (sym e))
-        ∙ map-append (λ (y : Block). y.name) (take k xs) (x ∷ [])
+-- what a loop over a list has made of it: with one item more, and in the end
+module _ {A B : Type 0} (f : A → B) (xs : List A) (i : ℕ) where
+  pub mapped-more : (x : A) (now new : List B) → i < length xs → x ≡ get_or xs i x → now ≡ map f (take i xs) → new ≡ now ++ f x ∷ []
+      → new ≡ map f (take (i + 1) xs)
+  mapped-more x now new inside is so_far more =
+      more ∙ (ap (λ ys. ys ++ f x ∷ []) so_far
+      ∙ sym (ap (map f) (take_more xs i x inside ∙ ap (λ y. take i xs ++ y ∷ []) (sym is)) ∙ map-append f (take i xs) (x ∷ [])))
+
+  pub mapped-all : (made : List B) → length xs ≤ i → made ≡ map f (take i xs) → made ≡ map f xs
+  mapped-all made all so_far = so_far ∙ ap (map f) (take_all i xs all)
 
 -- what is printed of a system is its text
 pub printed-text : (blocks : List Block) (images : List ImageBytes) (nodes : List LoadNode) (names : List (List ℕ)) (counts : List ℕ)

@@ -31,3 +31,6 @@ returns g c = λ said.
     ends_written seen (stream_written c.args.target.now) (system_plan c.args.config.now) before read after said said made
     c.in_ok-read.ensures.staged c.args.target.now (system_stream (seen made).1) c.write_stream.result refl
     (rw c.deref.ensures.value at c.write_stream.ensures)
+
+pub write_stream-requires-clause-whole : goal.write_stream-requires-clause-whole
+write_stream-requires-clause-whole g c = rw c.deref.ensures.value c.in_ok-read.ensures.loadable.whole

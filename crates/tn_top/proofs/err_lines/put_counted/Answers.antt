@@ -24,3 +24,11 @@ pub returns-clause-puts : goal.returns-clause-puts
 returns-clause-puts g c =
     Puts-joined (Puts-joined (Puts-joined c.in_ok-put.ensures.puts c.in_ok-put-2.ensures.puts) c.in_ok-put_spaced_decimal.ensures.puts)
     c.put-3.ensures.puts
+
+pub returns-in_err-put_spaced_decimal-clause-goes_on : goal.returns-in_err-put_spaced_decimal-clause-goes_on
+returns-in_err-put_spaced_decimal-clause-goes_on g c =
+    g.met.P.Put.joined _ _ _ (g.met.P.Put.joined _ _ _ c.in_ok-put.ensures.goes_on c.in_ok-put-2.ensures.goes_on) c.in_err-put_spaced_decimal.ensures.goes_on
+
+pub returns-clause-goes_on : goal.returns-clause-goes_on
+returns-clause-goes_on g c =
+    g.met.P.Put.joined _ _ _ (g.met.P.Put.joined _ _ _ (g.met.P.Put.joined _ _ _ c.in_ok-put.ensures.goes_on c.in_ok-put-2.ensures.goes_on) c.in_ok-put_spaced_decimal.ensures.goes_on) c.put-3.ensures.goes_on

@@ -26,3 +26,11 @@ unfolding not_enabled_line
 returns-clause-puts g c =
     Puts-joined (Puts-joined (Puts-joined c.in_ok-put_place.ensures.puts c.in_ok-put.ensures.puts) c.in_ok-put-2.ensures.puts)
     c.put-3.ensures.puts
+
+pub returns-in_err-put-2-clause-goes_on : goal.returns-in_err-put-2-clause-goes_on
+returns-in_err-put-2-clause-goes_on g c =
+    g.met.P.Put.joined _ _ _ (g.met.P.Put.joined _ _ _ c.in_ok-put_place.ensures.goes_on c.in_ok-put.ensures.goes_on) c.in_err-put-2.ensures.goes_on
+
+pub returns-clause-goes_on : goal.returns-clause-goes_on
+returns-clause-goes_on g c =
+    g.met.P.Put.joined _ _ _ (g.met.P.Put.joined _ _ _ (g.met.P.Put.joined _ _ _ c.in_ok-put_place.ensures.goes_on c.in_ok-put.ensures.goes_on) c.in_ok-put-2.ensures.goes_on) c.put-3.ensures.goes_on

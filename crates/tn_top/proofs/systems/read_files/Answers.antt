@@ -12,6 +12,8 @@ use Rattle.tn_top.specs.SystemPlans.{library_file_plan, sources_of, files_plan}
 use Rattle.tn_top.specs.Inner.Stages.{Staged}
 use Rattle.tn_top.specs.declared.refusals.Refusal.TheVariants.{NoMemory}
 use Rattle.tn_top.proofs.StageLaws.{staged-stopped, staged-then, staged-settled, staged-wanting}
+use Rattle.std.proofs.Common.{◌∙◌, length}
+use Rattle.std.proofs.lemmas.List.{length-map}
 use Rattle.tn_top.proofs.systems.read_files.Goals as goal
 
 abbrev pool_seen : Vec Parts Global → List Parts
@@ -82,3 +84,17 @@ returns-clause-staged g c =
     (rw (c.deref-2.ensures.value, libraries) at c.in_ok-shelf.ensures.staged)
     (staged-settled seen (sources_of file config pool.items (shelf_seen shelf)) after c.settled.result
     (rw (c.deref-3.ensures.value, c.deref-4.ensures.value) at c.settled.ensures.settles)))
+
+pub settled-requires-clause-read : goal.settled-requires-clause-read
+settled-requires-clause-read g c = record {
+  writable = c.requires.writable;
+  admitted = c.requires.admitted;
+  few_files = c.requires.few_files;
+  pool = rw c.deref-3.ensures.value (c.in_ok-pool.ensures.as_many
+      ∙ ap (λ xs. length xs) (c.deref.ensures.value ∙ ap (λ f. f.modules) c.in_ok-files.ensures));
+  shelf = rw c.deref-4.ensures.value (length-map c.in_ok-shelf.shelf.items (λ (l : Library). l.modules.items)
+      ∙ (c.in_ok-shelf.ensures.as_many
+      ∙ ap (λ xs. length xs) (c.deref-2.ensures.value ∙ ap (λ f. f.libraries) c.in_ok-files.ensures)));
+  few_lines = rw c.deref-3.ensures.value c.in_ok-pool.ensures.few_lines;
+  short = rw c.deref-4.ensures.value c.in_ok-shelf.ensures.short;
+}

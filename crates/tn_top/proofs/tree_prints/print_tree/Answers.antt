@@ -1,4 +1,5 @@
-use Rattle.std.proofs.Common.{◌≡◌, ◌∙◌, ap, length, Err}
+use Rattle.std.proofs.Common.{◌≡◌, ◌∙◌, ap, length, map, Err}
+use Rattle.std.proofs.lemmas.List.{length-map}
 use Rattle.std.specs.Prelude.{slice_index}
 use Rattle.std.proofs.lemmas.List.FromFn.{length-map-range_with_len}
 use Rattle.tn_text.proofs.Results.{of-error}
@@ -73,3 +74,15 @@ returns-clause-shows g c =
     let old = g.O.Out.printed c.args.out.now in
     let new = g.O.Out.printed c.tree_text.new.out in
     shows-part text (system_tree (configured c.args.read.now)) same old new NoMemory c.in-Err-NoMemory.ensures.lists.refused tt
+
+pub all_received-requires-clause-whole : goal.all_received-requires-clause-whole
+all_received-requires-clause-whole g c = rw c.deref-2.ensures.value c.requires.loadable.whole
+
+pub steps-steps-requires-clause-whole : goal.steps-steps-requires-clause-whole
+steps-steps-requires-clause-whole g c = rw c.deref-3.ensures.value c.requires.loadable.whole
+
+pub tree_text-requires-clause-whole : goal.tree_text-requires-clause-whole
+tree_text-requires-clause-whole g c =
+    let named : c.deref-4.result.now ≡ map (λ b. b.name) c.args.read.now.config.blocks.items =
+    c.deref-4.ensures.value ∙ (rw c.deref.ensures.value at c.in_ok-names.ensures) in
+    rw (ap (λ xs. length xs) named ∙ length-map c.args.read.now.config.blocks.items (λ b. b.name)) c.requires.named
