@@ -14,18 +14,15 @@ pub fn run_case(alloc: Global, case: &Case<'_>, report: &mut Report) -> Result<(
 
 fn answer(alloc: Global, words: &[&str]) -> Result<Vec<u8>, Stop> {
     match words {
-        [name, b, a] => short(alloc, name, hexadecimal(b)?, hexadecimal(a)?),
-        [name, a, b, c] => long(
-            alloc,
-            name,
-            [hexadecimal(a)?, hexadecimal(b)?, hexadecimal(c)?],
-        ),
+        [name, b, a] => short(alloc, name, b, a),
+        [name, a, b, c] => long(alloc, name, a, b, c),
         _ => Err(Stop::BadCase),
     }
 }
 
 /// An operation on Breg and Areg.
-fn short(alloc: Global, name: &str, b: u32, a: u32) -> Result<Vec<u8>, Stop> {
+fn short(alloc: Global, name: &str, b: &str, a: &str) -> Result<Vec<u8>, Stop> {
+    let (b, a) = (hexadecimal(b)?, hexadecimal(a)?);
     match name {
         "add" => told(alloc, add(b, a)),
         "sub" => told(alloc, sub(b, a)),
@@ -48,8 +45,8 @@ fn told(alloc: Global, answer: Answer) -> Result<Vec<u8>, Stop> {
 }
 
 /// An operation on Areg, Breg and Creg.
-fn long(alloc: Global, name: &str, registers: [u32; 3]) -> Result<Vec<u8>, Stop> {
-    let [a, b, c] = registers;
+fn long(alloc: Global, name: &str, a: &str, b: &str, c: &str) -> Result<Vec<u8>, Stop> {
+    let (a, b, c) = (hexadecimal(a)?, hexadecimal(b)?, hexadecimal(c)?);
     let (low, high) = match name {
         "lmul" => lmul(a, b, c),
         "lsum" => lsum(a, b, c),

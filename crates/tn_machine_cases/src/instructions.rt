@@ -43,20 +43,16 @@ const BEFORE: Stand = Stand {
 /// Runs a case of the table of instructions.
 pub fn run_case(alloc: Global, case: &Case<'_>, report: &mut Report) -> Result<(), Stop> {
     for line in case.lines.iter() {
-        match row(alloc, line) {
-            Ok((wanted, came)) => {
-                report.compare(
-                    alloc,
-                    case.name,
-                    line.text,
-                    wanted.as_slice(),
-                    came.as_slice(),
-                )?
-            }
-            Err(stop) => report.answer(alloc, case.name, line, Err(stop))?,
-        }
+        run_row(alloc, case.name, line, report)?;
     }
     Ok(())
+}
+
+fn run_row(alloc: Global, name: &str, line: &Line<'_>, report: &mut Report) -> Result<(), Stop> {
+    match row(alloc, line) {
+        Ok((wanted, came)) => report.compare(alloc, name, line.text, &wanted, &came),
+        Err(stop) => report.answer(alloc, name, line, Err(stop)),
+    }
 }
 
 /// What is to stand after the instruction of a line, and what stands, with whether memory holds what

@@ -38,8 +38,18 @@ fn run_memory(
     report: &mut Report,
 ) -> Result<(), Stop> {
     let mut memory = counted(alloc)?;
+    run_lines(alloc, case, lines, &mut memory, report)
+}
+
+fn run_lines(
+    alloc: Global,
+    case: &Case<'_>,
+    lines: &[Line<'_>],
+    memory: &mut Memory,
+    report: &mut Report,
+) -> Result<(), Stop> {
     for line in lines {
-        let came = memory_answer(alloc, &mut memory, line.words.as_slice());
+        let came = memory_answer(alloc, memory, line.words.as_slice());
         report.answer(alloc, case.name, line, came)?;
     }
     Ok(())
@@ -62,8 +72,18 @@ fn run_guarded(
     report: &mut Report,
 ) -> Result<(), Stop> {
     let mut space = CodeFree::around(counted(alloc)?, guard.0, guard.1);
+    run_lines_around(alloc, case, lines, &mut space, report)
+}
+
+fn run_lines_around(
+    alloc: Global,
+    case: &Case<'_>,
+    lines: &[Line<'_>],
+    space: &mut CodeFree,
+    report: &mut Report,
+) -> Result<(), Stop> {
     for line in lines {
-        let came = guarded_answer(alloc, &mut space, line.words.as_slice());
+        let came = guarded_answer(alloc, space, line.words.as_slice());
         report.answer(alloc, case.name, line, came)?;
     }
     Ok(())
@@ -90,34 +110,64 @@ fn copied(alloc: Global, memory: &Memory) -> Result<Vec<u8>, Stop> {
 /// What a space answers to an access.
 fn answer<S: Space>(alloc: Global, space: &mut S, words: &[&str]) -> Result<Vec<u8>, Stop> {
     match words {
-        ["byte", a] => match space.byte(hexadecimal(a)?) {
-            Ok(byte) => word(alloc, Ok(u32::from(byte))),
-            Err(touch) => said(alloc, refusal(touch)),
-        },
-        ["set-byte", a, v] => done(alloc, space.set_byte(hexadecimal(a)?, byte(v)?)),
+        ["byte", a] => byte_of(alloc, space, a),
+        ["set-byte", a, v] => set_byte(alloc, space, a, v),
         ["word", a] => word_of(alloc, space, a),
-        ["set-word", a, v] => done(alloc, space.set_word(hexadecimal(a)?, hexadecimal(v)?)),
+        ["set-word", a, v] => set_word(alloc, space, a, v),
         words => block_answer(alloc, space, words),
     }
 }
 
+fn byte_of<S: Space>(alloc: Global, space: &mut S, a: &str) -> Result<Vec<u8>, Stop> {
+    match space.byte(hexadecimal(a)?) {
+        Ok(byte) => word(alloc, Ok(u32::from(byte))),
+        Err(touch) => said(alloc, refusal(touch)),
+    }
+}
+
+fn set_byte<S: Space>(alloc: Global, space: &mut S, a: &str, v: &str) -> Result<Vec<u8>, Stop> {
+    done(alloc, space.set_byte(hexadecimal(a)?, byte(v)?))
+}
+
+fn set_word<S: Space>(alloc: Global, space: &mut S, a: &str, v: &str) -> Result<Vec<u8>, Stop> {
+    done(alloc, space.set_word(hexadecimal(a)?, hexadecimal(v)?))
+}
+
 fn block_answer<S: Space>(alloc: Global, space: &mut S, words: &[&str]) -> Result<Vec<u8>, Stop> {
     match words {
-        ["block", a, n] => {
-            let (a, n) = two_of(a, n)?;
-            done(alloc, space.block(a, n))
-        }
-        ["copy", from, to, n] => {
-            let ((from, to), n) = (two_of(from, to)?, hexadecimal(n)?);
-            done(alloc, space.copy(from, to, n))
-        }
-        ["fill", a, n, v] => {
-            let ((a, n), v) = (two_of(a, n)?, byte(v)?);
-            done(alloc, fill(space, a, n, v))
-        }
-        ["accesses", a] => accesses(alloc, space, hexadecimal(a)?),
+        ["block", a, n] => block(alloc, space, a, n),
+        ["copy", from, to, n] => copy(alloc, space, from, to, n),
+        ["fill", a, n, v] => filled(alloc, space, a, n, v),
+        ["accesses", a] => accesses(alloc, space, a),
         _ => Err(Stop::BadCase),
     }
+}
+
+fn block<S: Space>(alloc: Global, space: &mut S, a: &str, n: &str) -> Result<Vec<u8>, Stop> {
+    let (a, n) = two_of(a, n)?;
+    done(alloc, space.block(a, n))
+}
+
+fn copy<S: Space>(
+    alloc: Global,
+    space: &mut S,
+    from: &str,
+    to: &str,
+    n: &str,
+) -> Result<Vec<u8>, Stop> {
+    let ((from, to), n) = (two_of(from, to)?, hexadecimal(n)?);
+    done(alloc, space.copy(from, to, n))
+}
+
+fn filled<S: Space>(
+    alloc: Global,
+    space: &mut S,
+    a: &str,
+    n: &str,
+    v: &str,
+) -> Result<Vec<u8>, Stop> {
+    let ((a, n), v) = (two_of(a, n)?, byte(v)?);
+    done(alloc, fill(space, a, n, v))
 }
 
 /// Two numbers in hexadecimal.
@@ -136,8 +186,15 @@ fn fill<S: Space>(space: &mut S, a: u32, n: u32, byte: u8) -> Result<(), Touch> 
 
 /// The refusals at an address: of a byte and its store, a word and its store, a block of 4 bytes,
 /// copies of 4 bytes from there and to there, and a block of 0 bytes.
-fn accesses<S: Space>(alloc: Global, space: &mut S, a: u32) -> Result<Vec<u8>, Stop> {
-    let refusals = [
+fn accesses<S: Space>(alloc: Global, space: &mut S, a: &str) -> Result<Vec<u8>, Stop> {
+    let touches = touches(space, hexadecimal(a)?);
+    let mut text = String::new(alloc);
+    put_touches(touches, &mut text)?;
+    Ok(text.into_bytes())
+}
+
+fn touches<S: Space>(space: &mut S, a: u32) -> [Option<Touch>; 8] {
+    [
         space.byte(a).err(),
         space.set_byte(a, 7).err(),
         space.word(a).err(),
@@ -146,15 +203,17 @@ fn accesses<S: Space>(alloc: Global, space: &mut S, a: u32) -> Result<Vec<u8>, S
         space.copy(a, SPARE, 4).err(),
         space.copy(SPARE, a, 4).err(),
         space.block(a, 0).err(),
-    ];
-    let mut text = String::new(alloc);
-    for found in refusals {
+    ]
+}
+
+fn put_touches(touches: [Option<Touch>; 8], text: &mut String) -> Result<(), Stop> {
+    for found in touches {
         if !text.is_empty() {
             text.push(' ')?;
         }
         text.push_str(outcome_of(found))?;
     }
-    Ok(text.into_bytes())
+    Ok(())
 }
 
 /// Whether an access was made, or its refusal.

@@ -53,19 +53,26 @@ fn look(alloc: Global, network: &Network, words: &[&str]) -> Result<Vec<u8>, Sto
     match words {
         ["check"] => said(alloc, "a network"),
         ["count"] => Ok(network.count().to_string(alloc)?.into_bytes()),
-        ["root"] => {
-            let (processor, link) = network.root();
-            Ok(format!(in alloc; "{processor} {link}")?.into_bytes())
-        }
-        ["size", processor] => size(alloc, network, number(processor)?),
-        ["far", processor, link] => far(alloc, network, number(processor)?, number(link)?),
+        ["root"] => root(alloc, network),
+        ["size", processor] => size(alloc, network, processor),
+        ["far", processor, link] => far(alloc, network, processor, link),
         ["tree"] => tree(alloc, network, None),
-        ["node", place] => tree(alloc, network, Some(number(place)?)),
+        ["node", place] => node(alloc, network, place),
         _ => Err(Stop::BadCase),
     }
 }
 
-fn size(alloc: Global, network: &Network, processor: u32) -> Result<Vec<u8>, Stop> {
+fn root(alloc: Global, network: &Network) -> Result<Vec<u8>, Stop> {
+    let (processor, link) = network.root();
+    Ok(format!(in alloc; "{processor} {link}")?.into_bytes())
+}
+
+fn node(alloc: Global, network: &Network, place: &str) -> Result<Vec<u8>, Stop> {
+    tree(alloc, network, Some(number(place)?))
+}
+
+fn size(alloc: Global, network: &Network, processor: &str) -> Result<Vec<u8>, Stop> {
+    let processor = number(processor)?;
     if processor >= network.count() {
         return Err(Stop::BadCase);
     }
@@ -73,7 +80,8 @@ fn size(alloc: Global, network: &Network, processor: u32) -> Result<Vec<u8>, Sto
 }
 
 /// What is at the far end of a link.
-fn far(alloc: Global, network: &Network, processor: u32, link: u32) -> Result<Vec<u8>, Stop> {
+fn far(alloc: Global, network: &Network, processor: &str, link: &str) -> Result<Vec<u8>, Stop> {
+    let (processor, link) = (number(processor)?, number(link)?);
     if processor >= network.count() || link >= 4 {
         return Err(Stop::BadCase);
     }

@@ -16,12 +16,35 @@ const FOLLOWING: u32 = 0x8000_0079;
 /// Runs a case of the table of nodes. Its first line says which node it is of.
 pub fn run_case(alloc: Global, case: &Case<'_>, report: &mut Report) -> Result<(), Stop> {
     let (first, lines) = case.lines.split_first().ok_or(Stop::BadCase)?;
-    let mut node = powered_up(alloc)?;
     match first.words.as_slice() {
-        ["node"] => run_lines(alloc, case, lines, &mut node, report),
-        ["guarded", from, to] => run_copy(alloc, case, lines, &node, (from, to), report),
+        ["node"] => run_node(alloc, case, lines, report),
+        ["guarded", from, to] => {
+            let guard = (hexadecimal(from)?, hexadecimal(to)?);
+            run_guarded(alloc, case, lines, guard, report)
+        }
         _ => Err(Stop::BadCase),
     }
+}
+
+fn run_node(
+    alloc: Global,
+    case: &Case<'_>,
+    lines: &[Line<'_>],
+    report: &mut Report,
+) -> Result<(), Stop> {
+    let mut node = powered_up(alloc)?;
+    run_lines(alloc, case, lines, &mut node, report)
+}
+
+fn run_guarded(
+    alloc: Global,
+    case: &Case<'_>,
+    lines: &[Line<'_>],
+    guard: (u32, u32),
+    report: &mut Report,
+) -> Result<(), Stop> {
+    let node = powered_up(alloc)?;
+    run_copy(alloc, case, lines, &node, guard, report)
 }
 
 /// Runs lines of a copy of a node that stores into no byte from an address to another.
@@ -30,13 +53,12 @@ fn run_copy(
     case: &Case<'_>,
     lines: &[Line<'_>],
     node: &Node<Memory>,
-    guard: (&str, &str),
+    guard: (u32, u32),
     report: &mut Report,
 ) -> Result<(), Stop>
     requires { IsQuiet node.now }
 {
-    let (from, to) = (hexadecimal(guard.0)?, hexadecimal(guard.1)?);
-    match node.guarded(from, to) {
+    match node.guarded(guard.0, guard.1) {
         Ok(mut copy) => run_lines(alloc, case, lines, &mut copy, report),
         Err(_) => Err(Stop::NoMemory),
     }
@@ -67,9 +89,9 @@ fn run_lines<M: Space>(
 /// What a line gives.
 fn answer<M: Space>(alloc: Global, node: &mut Node<M>, words: &[&str]) -> Result<Vec<u8>, Stop> {
     match words {
-        ["take", link, bytes @ ..] => take(alloc, node, link_of(link)?, bytes),
-        ["send", link] => send(alloc, node, link_of(link)?),
-        ["acknowledge", link] => acknowledge(alloc, node, link_of(link)?),
+        ["take", link, bytes @ ..] => take(alloc, node, link, bytes),
+        ["send", link] => send(alloc, node, link),
+        ["acknowledge", link] => acknowledge(alloc, node, link),
         ["run"] => run(alloc, node),
         ["do", name] => execute(alloc, node, name, "0"),
         ["do", name, operand] => execute(alloc, node, name, operand),
@@ -92,9 +114,10 @@ fn link_of(word: &str) -> Result<u8, Stop> {
 fn take<M: Space>(
     alloc: Global,
     node: &mut Node<M>,
-    l: u8,
+    link: &str,
     bytes: &[&str],
 ) -> Result<Vec<u8>, Stop> {
+    let l = link_of(link)?;
     let mut taken: u32 = 0;
     for text in bytes {
         let byte = byte(text)?;
@@ -107,7 +130,8 @@ fn take<M: Space>(
 }
 
 /// The byte that a node offers on a link, marked as gone out.
-fn send<M: Space>(alloc: Global, node: &mut Node<M>, l: u8) -> Result<Vec<u8>, Stop> {
+fn send<M: Space>(alloc: Global, node: &mut Node<M>, link: &str) -> Result<Vec<u8>, Stop> {
+    let l = link_of(link)?;
     if l >= 4 {
         return Err(Stop::BadCase);
     }
@@ -126,7 +150,8 @@ fn byte_text(alloc: Global, byte: Option<u8>) -> Result<Vec<u8>, Stop> {
 }
 
 /// Acknowledges the byte of a link that has gone out, if one has.
-fn acknowledge<M: Space>(alloc: Global, node: &mut Node<M>, l: u8) -> Result<Vec<u8>, Stop> {
+fn acknowledge<M: Space>(alloc: Global, node: &mut Node<M>, link: &str) -> Result<Vec<u8>, Stop> {
+    let l = link_of(link)?;
     if l >= 4 {
         return Err(Stop::BadCase);
     }
@@ -175,18 +200,19 @@ fn execute<M: Space>(
 /// What a node tells.
 fn look<M: Space>(alloc: Global, node: &Node<M>, words: &[&str]) -> Result<Vec<u8>, Stop> {
     match words {
-        ["mode"] => {
-            let mode = node.mode();
-            Ok(format!(in alloc; "{mode:?}")?.into_bytes())
-        }
+        ["mode"] => mode_text(alloc, node.mode()),
         ["wants"] => wanted(alloc, node),
-        ["offers", link] => offered(alloc, node, link_of(link)?),
+        ["offers", link] => offered(alloc, node, link),
         ["expects"] => expects(alloc, node),
-        ["link", link] => link_text(alloc, node, link_of(link)?),
+        ["link", link] => link_text(alloc, node, link),
         ["registers"] => registers(alloc, &node.cpu().view()),
         ["word", address] => word_of(alloc, node.cpu().memory(), address),
         _ => Err(Stop::BadCase),
     }
+}
+
+fn mode_text(alloc: Global, mode: Mode) -> Result<Vec<u8>, Stop> {
+    Ok(format!(in alloc; "{mode:?}")?.into_bytes())
 }
 
 /// The links of which a node wants a byte.
@@ -200,7 +226,8 @@ fn wanted<M: Space>(alloc: Global, node: &Node<M>) -> Result<Vec<u8>, Stop> {
     Ok(text.into_bytes())
 }
 
-fn offered<M: Space>(alloc: Global, node: &Node<M>, l: u8) -> Result<Vec<u8>, Stop> {
+fn offered<M: Space>(alloc: Global, node: &Node<M>, link: &str) -> Result<Vec<u8>, Stop> {
+    let l = link_of(link)?;
     if l >= 4 {
         return Err(Stop::BadCase);
     }
@@ -219,7 +246,8 @@ fn expects<M: Space>(alloc: Global, node: &Node<M>) -> Result<Vec<u8>, Stop> {
 }
 
 /// The engines of a link.
-fn link_text<M: Space>(alloc: Global, node: &Node<M>, l: u8) -> Result<Vec<u8>, Stop> {
+fn link_text<M: Space>(alloc: Global, node: &Node<M>, link: &str) -> Result<Vec<u8>, Stop> {
+    let l = link_of(link)?;
     if l >= 4 {
         return Err(Stop::BadCase);
     }

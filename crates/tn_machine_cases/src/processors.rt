@@ -23,16 +23,27 @@ fn run_with(
 ) -> Result<(), Stop> {
     for (k, line) in case.lines.iter().enumerate() {
         if let ["guarded", from, to] = line.words.as_slice() {
-            let (from, to) = (hexadecimal(from)?, hexadecimal(to)?);
-            let lines = &case.lines[k + 1..];
-            return match cpu.guarded(from, to) {
-                Ok(mut copy) => run_lines(alloc, case, lines, &mut copy, report),
-                Err(_) => Err(Stop::NoMemory),
-            };
+            let guard = (hexadecimal(from)?, hexadecimal(to)?);
+            return run_copy(alloc, case, &case.lines[k + 1..], cpu, guard, report);
         }
         report.answer(alloc, case.name, line, answer(alloc, cpu, line))?;
     }
     Ok(())
+}
+
+/// Runs lines of a copy of a processor that stores into no byte from an address to another.
+fn run_copy(
+    alloc: Global,
+    case: &Case<'_>,
+    lines: &[Line<'_>],
+    cpu: &Cpu<Memory>,
+    guard: (u32, u32),
+    report: &mut Report,
+) -> Result<(), Stop> {
+    match cpu.guarded(guard.0, guard.1) {
+        Ok(mut copy) => run_lines(alloc, case, lines, &mut copy, report),
+        Err(_) => Err(Stop::NoMemory),
+    }
 }
 
 fn run_lines<M: Space>(
@@ -51,14 +62,11 @@ fn run_lines<M: Space>(
 /// What a line gives.
 fn answer<M: Space>(alloc: Global, cpu: &mut Cpu<M>, line: &Line<'_>) -> Result<Vec<u8>, Stop> {
     match line.words.as_slice() {
-        ["do", name] => outcome(alloc, executed(cpu, name, "0", false)?),
-        ["do", name, operand] => outcome(alloc, executed(cpu, name, operand, false)?),
-        ["slice", name, operand] => outcome(alloc, executed(cpu, name, operand, true)?),
-        ["step"] => outcome(alloc, step(cpu)?),
-        ["life"] => {
-            let life = cpu.life();
-            Ok(format!(in alloc; "{life:?}")?.into_bytes())
-        }
+        ["do", name] => outcome(alloc, executed(cpu, name, "0", false)),
+        ["do", name, operand] => outcome(alloc, executed(cpu, name, operand, false)),
+        ["slice", name, operand] => outcome(alloc, executed(cpu, name, operand, true)),
+        ["step"] => outcome(alloc, step(cpu)),
+        ["life"] => life_text(alloc, cpu.life()),
         ["registers"] => registers(alloc, &cpu.view()),
         ["word", address] => word_of(alloc, cpu.memory(), address),
         words => change(alloc, cpu, words),
@@ -107,6 +115,11 @@ fn step<M: Space>(cpu: &mut Cpu<M>) -> Result<Outcome, Stop> {
     Ok(cpu.step(0, false, CLOCK))
 }
 
-fn outcome(alloc: Global, outcome: Outcome) -> Result<Vec<u8>, Stop> {
+fn outcome(alloc: Global, came: Result<Outcome, Stop>) -> Result<Vec<u8>, Stop> {
+    let outcome = came?;
     Ok(format!(in alloc; "{outcome:?}")?.into_bytes())
+}
+
+fn life_text(alloc: Global, life: Life) -> Result<Vec<u8>, Stop> {
+    Ok(format!(in alloc; "{life:?}")?.into_bytes())
 }

@@ -45,32 +45,44 @@ fn answer(
     words: &[&str],
 ) -> Result<Vec<u8>, Stop> {
     match words {
-        ["settle", most] => settled(alloc, &mut setup.net, decimal(most)?, false),
-        ["settle", most, "back"] => settled(alloc, &mut setup.net, decimal(most)?, true),
-        ["release"] => {
-            setup.net.release();
-            said(alloc, "done")
-        }
-        ["go", words @ ..] => go(alloc, setup, pick_of(words)?),
-        ["turns", count, words @ ..] => {
-            let picks = picks_of(alloc, words)?;
-            turns(alloc, setup, decimal(count)?, &picks)
-        }
+        ["settle", most] => settled(alloc, &mut setup.net, most, false),
+        ["settle", most, "back"] => settled(alloc, &mut setup.net, most, true),
+        ["release"] => release(alloc, &mut setup.net),
+        ["go", words @ ..] => go(alloc, setup, words),
+        ["turns", count, words @ ..] => turns(alloc, setup, count, words),
         ["made"] => Ok(setup.made.to_string(alloc)?.into_bytes()),
-        ["step", words @ ..] => step(alloc, setup, pick_of(words)?),
-        ["enabled", words @ ..] => yes(alloc, setup.net.enabled(pick_of(words)?)),
-        ["ready", words @ ..] => yes(alloc, setup.net.board().ready(pick_of(words)?)),
-        ["stream"] => match setup.stream {
-            Some((bytes, steps)) => Ok(format!(in alloc; "{bytes} {steps}")?.into_bytes()),
-            None => Err(Stop::BadCase),
-        },
+        ["step", words @ ..] => step(alloc, setup, words),
+        ["enabled", words @ ..] => is_enabled(alloc, &setup.net, words),
+        ["ready", words @ ..] => is_ready(alloc, &setup.net, words),
+        ["stream"] => stream_text(alloc, setup.stream),
         ["loaded"] => is_loaded(alloc, &setup.net, images),
         words => look(alloc, &setup.net, words),
     }
 }
 
-fn settled(alloc: Global, net: &mut Net, most: u64, back: bool) -> Result<Vec<u8>, Stop> {
-    let (steps, rested) = settle(net, most, back);
+fn release(alloc: Global, net: &mut Net) -> Result<Vec<u8>, Stop> {
+    net.release();
+    said(alloc, "done")
+}
+
+fn is_enabled(alloc: Global, net: &Net, words: &[&str]) -> Result<Vec<u8>, Stop> {
+    yes(alloc, net.enabled(pick_of(words)?))
+}
+
+fn is_ready(alloc: Global, net: &Net, words: &[&str]) -> Result<Vec<u8>, Stop> {
+    yes(alloc, net.board().ready(pick_of(words)?))
+}
+
+/// The bytes of a stream, and the steps of loading it.
+fn stream_text(alloc: Global, stream: Option<(u64, u64)>) -> Result<Vec<u8>, Stop> {
+    match stream {
+        Some((bytes, steps)) => Ok(format!(in alloc; "{bytes} {steps}")?.into_bytes()),
+        None => Err(Stop::BadCase),
+    }
+}
+
+fn settled(alloc: Global, net: &mut Net, most: &str, back: bool) -> Result<Vec<u8>, Stop> {
+    let (steps, rested) = settle(net, decimal(most)?, back);
     let how = if rested { "rest" } else { "budget" };
     Ok(format!(in alloc; "{how} {steps}")?.into_bytes())
 }
@@ -109,8 +121,8 @@ fn picks_of(alloc: Global, words: &[&str]) -> Result<Vec<Pick>, Stop> {
 }
 
 /// Makes a pick, and tells what it was.
-fn go(alloc: Global, setup: &mut Setup, pick: Pick) -> Result<Vec<u8>, Stop> {
-    let made = setup.net.apply(pick);
+fn go(alloc: Global, setup: &mut Setup, words: &[&str]) -> Result<Vec<u8>, Stop> {
+    let made = setup.net.apply(pick_of(words)?);
     if made.is_ok() {
         setup.made = setup.made.saturating_add(1);
     }
@@ -123,7 +135,17 @@ fn go(alloc: Global, setup: &mut Setup, pick: Pick) -> Result<Vec<u8>, Stop> {
 }
 
 /// Makes picks one after the other, all of them so many times, and tells the first that is refused.
-fn turns(alloc: Global, setup: &mut Setup, count: u64, picks: &[Pick]) -> Result<Vec<u8>, Stop> {
+fn turns(alloc: Global, setup: &mut Setup, count: &str, words: &[&str]) -> Result<Vec<u8>, Stop> {
+    let picks = picks_of(alloc, words)?;
+    make_turns(alloc, setup, decimal(count)?, &picks)
+}
+
+fn make_turns(
+    alloc: Global,
+    setup: &mut Setup,
+    count: u64,
+    picks: &[Pick],
+) -> Result<Vec<u8>, Stop> {
     for turn in 0..count {
         for pick in picks {
             if setup.net.apply(*pick).is_err() {
@@ -140,7 +162,8 @@ fn turns(alloc: Global, setup: &mut Setup, count: u64, picks: &[Pick]) -> Result
 
 /// Makes a pick, and tells a digest of the state behind it, with the memories of the processors that
 /// it may have changed.
-fn step(alloc: Global, setup: &mut Setup, pick: Pick) -> Result<Vec<u8>, Stop> {
+fn step(alloc: Global, setup: &mut Setup, words: &[&str]) -> Result<Vec<u8>, Stop> {
+    let pick = pick_of(words)?;
     let (p, far) = ends(setup, pick);
     if setup.net.apply(pick).is_err() {
         return said(alloc, "refused");
@@ -194,10 +217,10 @@ fn look(alloc: Global, net: &Net, words: &[&str]) -> Result<Vec<u8>, Stop> {
         ["sent"] => yes(alloc, net.board().host_sent()),
         ["got"] => tn_tables::spelled(alloc, net.host_got()),
         ["host"] => shown::byte_or_none(alloc, net.board().host_latch()),
-        ["latch", p, l] => latch(alloc, net, number(p)?, link_of(l)?),
-        ["mode", p] => mode(alloc, net, number(p)?),
-        ["show", p] => show(alloc, net, number(p)?),
-        ["word", p, a] => word(alloc, net, number(p)?, number(a)?),
+        ["latch", p, l] => latch(alloc, net, p, l),
+        ["mode", p] => mode(alloc, net, p),
+        ["show", p] => show(alloc, net, p),
+        ["word", p, a] => word(alloc, net, p, a),
         ["state"] => state(alloc, net),
         _ => Err(Stop::BadCase),
     }
@@ -210,14 +233,16 @@ fn first(alloc: Global, net: &Net, back: bool) -> Result<Vec<u8>, Stop> {
     }
 }
 
-fn latch(alloc: Global, net: &Net, p: u32, l: u8) -> Result<Vec<u8>, Stop> {
+fn latch(alloc: Global, net: &Net, p: &str, l: &str) -> Result<Vec<u8>, Stop> {
+    let (p, l) = (number(p)?, link_of(l)?);
     if p >= net.board().count() || l >= 4 {
         return Err(Stop::BadCase);
     }
     shown::byte_or_none(alloc, net.latch(p, l))
 }
 
-fn mode(alloc: Global, net: &Net, p: u32) -> Result<Vec<u8>, Stop> {
+fn mode(alloc: Global, net: &Net, p: &str) -> Result<Vec<u8>, Stop> {
+    let p = number(p)?;
     if p >= net.board().count() {
         return Err(Stop::BadCase);
     }
@@ -225,14 +250,16 @@ fn mode(alloc: Global, net: &Net, p: u32) -> Result<Vec<u8>, Stop> {
     Ok(format!(in alloc; "{mode:?}")?.into_bytes())
 }
 
-fn show(alloc: Global, net: &Net, p: u32) -> Result<Vec<u8>, Stop> {
+fn show(alloc: Global, net: &Net, p: &str) -> Result<Vec<u8>, Stop> {
+    let p = number(p)?;
     if p >= net.board().count() {
         return Err(Stop::BadCase);
     }
     shown::registers(alloc, &net.node(p).cpu().view())
 }
 
-fn word(alloc: Global, net: &Net, p: u32, a: u32) -> Result<Vec<u8>, Stop> {
+fn word(alloc: Global, net: &Net, p: &str, a: &str) -> Result<Vec<u8>, Stop> {
+    let (p, a) = (number(p)?, number(a)?);
     if p >= net.board().count() {
         return Err(Stop::BadCase);
     }

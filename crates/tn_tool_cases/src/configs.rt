@@ -60,16 +60,29 @@ fn answer_of(alloc: Global, config: &Config, words: &[&str]) -> Result<Vec<u8>, 
 {
     match words {
         ["read"] => counts(alloc, config),
-        ["block", place] => block(alloc, block_at(config, place)?),
-        ["lines", place] => lines(alloc, block_at(config, place)?),
-        ["files", place] => files(alloc, block_at(config, place)?),
-        ["args", place] => args(alloc, &block_at(config, place)?.args),
+        [what, place] => block_answer(alloc, config, what, place),
         ["host"] => host(alloc, config),
         ["wires"] => wires(alloc, &config.wires),
-        ["written"] => Ok(write_config(alloc, config)?),
+        ["written"] => written(alloc, config),
         ["network"] => network(alloc, config),
         _ => Err(Stop::BadCase),
     }
+}
+
+/// What a line asks of a block.
+fn block_answer(alloc: Global, config: &Config, what: &str, place: &str) -> Result<Vec<u8>, Stop> {
+    let block = block_at(config, place)?;
+    match what {
+        "block" => addresses(alloc, block),
+        "lines" => lines(alloc, block),
+        "files" => files(alloc, block),
+        "args" => args(alloc, &block.args),
+        _ => Err(Stop::BadCase),
+    }
+}
+
+fn written(alloc: Global, config: &Config) -> Result<Vec<u8>, Stop> {
+    Ok(write_config(alloc, config)?)
 }
 
 fn block_at<'a>(config: &'a Config, place: &str) -> Result<&'a Block, Stop> {
@@ -85,7 +98,7 @@ fn counts(alloc: Global, config: &Config) -> Result<Vec<u8>, Stop> {
 }
 
 /// The name and the size, the addresses of code and data, the workspace, and the entry.
-fn block(alloc: Global, block: &Block) -> Result<Vec<u8>, Stop> {
+fn addresses(alloc: Global, block: &Block) -> Result<Vec<u8>, Stop> {
     let mut text = begun(alloc, &block.name)?;
     push_number(alloc, &mut text, block.size)?;
     push_word(alloc, &mut text, block.code)?;

@@ -17,10 +17,15 @@ pub fn answer(alloc: Global, line: &Line<'_>) -> Result<Vec<u8>, Stop> {
         ["front", writes, code, number, details @ ..] => {
             front(alloc, writes, code, number, details)
         }
-        ["word", word] => Ok(Vec::from_slice(alloc, &word_text(number(word)?))?),
+        ["word", word] => word_answer(alloc, word),
         ["put", pieces @ ..] => put_pieces(alloc, pieces),
         _ => Err(Stop::BadCase),
     }
+}
+
+/// A word as texts print it.
+fn word_answer(alloc: Global, word: &str) -> Result<Vec<u8>, Stop> {
+    Ok(Vec::from_slice(alloc, &word_text(number(word)?))?)
 }
 
 /// The line of a fault, without its line feed.
@@ -75,11 +80,16 @@ fn refused(alloc: Global, fault: &Fault, mut out: MemOut) -> Result<Vec<u8>, Sto
 /// or the place of a line.
 fn put_pieces(alloc: Global, pieces: &[&str]) -> Result<Vec<u8>, Stop> {
     let mut out = MemOut::new(Vec::new(alloc));
+    put_all(pieces, &mut Printed { out: &mut out })?;
+    Ok(out.into_bytes())
+}
+
+fn put_all<P: Put>(pieces: &[&str], out: &mut P) -> Result<(), Stop> {
     for piece in pieces {
         let (kind, piece) = piece.split_once('=').ok_or(Stop::BadCase)?;
-        put_piece(kind, piece, &mut Printed { out: &mut out })?;
+        put_piece(kind, piece, out)?;
     }
-    Ok(out.into_bytes())
+    Ok(())
 }
 
 fn put_piece<P: Put>(kind: &str, piece: &str, out: &mut P) -> Result<(), Stop> {

@@ -28,13 +28,16 @@ fn read(alloc: Global, text: &[u8]) -> Result<Vec<u8>, Stop>
 /// Instructions by their names and operands.
 fn listed(alloc: Global, instructions: &[Instruction]) -> Result<Vec<u8>, Stop> {
     let mut text = String::new(alloc);
+    put_all(alloc, instructions, &mut text)?;
+    Ok(text.into_bytes())
+}
+
+fn put_all(alloc: Global, instructions: &[Instruction], text: &mut String) -> Result<(), Stop> {
     for instruction in instructions {
-        if !text.is_empty() {
-            text.push_str(", ")?;
-        }
+        let between = if text.is_empty() { "" } else { ", " };
         let name = mnemonic_name(Mnemonic::Direct(instruction.fun));
         let operand = instruction.operand;
-        text.push_str(format!(in alloc; "{name} {operand}")?.as_str())?;
+        text.push_str(format!(in alloc; "{between}{name} {operand}")?.as_str())?;
     }
-    Ok(text.into_bytes())
+    Ok(())
 }

@@ -3,7 +3,7 @@ ghost use Rattle.tn_layout.specs.Sizes.{NamesUpTo, AreNamed};
 
 use std::alloc::Global;
 use tn_layout::{LayoutFault, Piece, settle};
-use tn_tables::{Case, Report, Stop, decimal, number, said};
+use tn_tables::{Case, Report, Stop, decimal, number};
 use tn_text::limits::ITEM_LIMIT;
 
 /// Runs a case of the table of layouts.
@@ -22,15 +22,20 @@ fn answer(alloc: Global, pieces: &mut Vec<Piece>, words: &[&str]) -> Result<Vec<
         ["settle"] => settled(alloc, pieces, usize::MAX),
         ["settle", "first"] => settled(alloc, pieces, 1),
         ["settle", "count"] => settled(alloc, pieces, 0),
-        [.., "times", count] => {
-            add(pieces, words, decimal(count)?)?;
-            Ok(Vec::new(alloc))
-        }
-        _ => {
-            add(pieces, words, 1)?;
-            Ok(Vec::new(alloc))
-        }
+        [.., "times", count] => added(alloc, pieces, words, count),
+        _ => added(alloc, pieces, words, "1"),
     }
+}
+
+/// Adds a piece so many times, which gives nothing.
+fn added(
+    alloc: Global,
+    pieces: &mut Vec<Piece>,
+    words: &[&str],
+    count: &str,
+) -> Result<Vec<u8>, Stop> {
+    add(pieces, words, decimal(count)?)?;
+    Ok(Vec::new(alloc))
 }
 
 /// Adds a piece so many times.
@@ -70,13 +75,16 @@ fn settled(alloc: Global, pieces: &[Piece], most: usize) -> Result<Vec<u8>, Stop
 /// The first sizes, so many of them at most.
 fn listed(alloc: Global, sizes: &[u8], most: usize) -> Result<Vec<u8>, Stop> {
     let mut text = String::new(alloc);
+    put_sizes(alloc, sizes, most, &mut text)?;
+    Ok(text.into_bytes())
+}
+
+fn put_sizes(alloc: Global, sizes: &[u8], most: usize, text: &mut String) -> Result<(), Stop> {
     for size in sizes.iter().take(most) {
-        if !text.is_empty() {
-            text.push(' ')?;
-        }
-        text.push_str(size.to_string(alloc)?.as_str())?;
+        let between = if text.is_empty() { "" } else { " " };
+        text.push_str(format!(in alloc; "{between}{size}")?.as_str())?;
     }
-    said(alloc, text.as_str())
+    Ok(())
 }
 
 /// Whether each place that a piece names is one of the pieces or their end.

@@ -33,11 +33,20 @@ struct Stock {
 /// Runs a case of the table of links.
 pub fn run_case(alloc: Global, case: &Case<'_>, report: &mut Report) -> Result<(), Stop> {
     let stock = stock_of(alloc, case)?;
+    run_lines(alloc, case, &stock, report)
+}
+
+fn run_lines(
+    alloc: Global,
+    case: &Case<'_>,
+    stock: &Stock,
+    report: &mut Report,
+) -> Result<(), Stop> {
     for line in case.lines.iter() {
         match line.words.as_slice() {
             ["module"] | ["library"] | ["named", ..] | ["used", ..] | ["from", ..] => {}
             words => {
-                let came = answer(alloc, &stock, words);
+                let came = answer(alloc, stock, words);
                 report.answer(alloc, case.name, line, came)?;
             }
         }
@@ -65,13 +74,21 @@ fn stock_of(alloc: Global, case: &Case<'_>) -> Result<Stock, Stop> {
 
 fn add_line(alloc: Global, stock: &mut Stock, line: &Line<'_>) -> Result<(), Stop> {
     match line.words.as_slice() {
-        ["module"] => add_module(stock, module_of(alloc, line)?),
+        ["module"] => add_module_of(alloc, stock, line),
         ["library"] => add_library(alloc, stock),
         ["named", places @ ..] => put_places(&mut stock.named, places),
         ["used", places @ ..] => put_places(&mut stock.used, places),
         ["from", code, cells] => put_bases(&mut stock.bases, code, cells),
         ["from", ..] => Err(Stop::BadCase),
         _ => Ok(()),
+    }
+}
+
+/// Adds the module of a text.
+fn add_module_of(alloc: Global, stock: &mut Stock, line: &Line<'_>) -> Result<(), Stop> {
+    match module_of(alloc, line) {
+        Ok(module) => add_module(stock, module),
+        Err(stop) => Err(stop),
     }
 }
 

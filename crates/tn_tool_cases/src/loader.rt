@@ -11,22 +11,32 @@ use tn_word::{
 /// What a line of the table of words and of the loader's bytes gives.
 pub fn answer(alloc: Global, line: &Line<'_>) -> Result<Vec<u8>, Stop> {
     match line.words.as_slice() {
-        ["word-bytes", word] => spelled(alloc, &word_bytes(number(word)?)),
+        ["word-bytes", word] => bytes_of(alloc, word),
         ["word-at", place] => word(alloc, &line.bytes, place),
         ["address", name] => address(alloc, name),
         ["out-channel", link] => channel(alloc, link, false),
         ["in-channel", link] => channel(alloc, link, true),
         ["size", name] => size(alloc, name),
         ["primary", link] => primary_of(alloc, link),
-        ["secondary"] => bytes(alloc, &secondary()),
+        ["secondary"] => secondary_of(alloc),
         ["secondary-constant"] => bytes(alloc, &SECONDARY),
-        ["command", name, x, n] => command_of(alloc, name, number(x)?, number(n)?),
+        ["command", name, x, n] => command_of(alloc, name, x, n),
         _ => Err(Stop::BadCase),
     }
 }
 
 fn bytes(alloc: Global, found: &[u8]) -> Result<Vec<u8>, Stop> {
     Ok(Vec::from_slice(alloc, found)?)
+}
+
+/// The bytes of a word.
+fn bytes_of(alloc: Global, word: &str) -> Result<Vec<u8>, Stop> {
+    spelled(alloc, &word_bytes(number(word)?))
+}
+
+/// The secondary bootstrap.
+fn secondary_of(alloc: Global) -> Result<Vec<u8>, Stop> {
+    bytes(alloc, &secondary())
 }
 
 /// A word as texts print it.
@@ -92,7 +102,7 @@ fn primary_of(alloc: Global, link: &str) -> Result<Vec<u8>, Stop> {
     bytes(alloc, &primary(link))
 }
 
-fn command_of(alloc: Global, name: &str, x: u32, n: u32) -> Result<Vec<u8>, Stop> {
+fn command_of(alloc: Global, name: &str, x: &str, n: &str) -> Result<Vec<u8>, Stop> {
     let op = match name {
         "LOAD" => LOAD,
         "FORWARD" => FORWARD,
@@ -100,5 +110,5 @@ fn command_of(alloc: Global, name: &str, x: u32, n: u32) -> Result<Vec<u8>, Stop
         "NOP" => NOP,
         _ => return Err(Stop::BadCase),
     };
-    spelled(alloc, &command(op, x, n))
+    spelled(alloc, &command(op, number(x)?, number(n)?))
 }

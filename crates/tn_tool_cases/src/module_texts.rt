@@ -63,15 +63,44 @@ fn lines(alloc: Global, m: &Module) -> Result<Vec<u8>, Stop>
     requires { IsShort m.now }
 {
     let mut text = String::new(alloc);
-    for i in 0..m.raw().imports.len() {
-        let line = import_line(m, i as u32);
-        text.push_str(format!(in alloc; "import {line}, ")?.as_str())?;
-    }
-    for i in 0..m.raw().exports.len() {
-        let line = export_line(m, i as u32);
-        text.push_str(format!(in alloc; "export {line}, ")?.as_str())?;
-    }
-    let count = module_lines(m);
-    text.push_str(format!(in alloc; "{count} lines")?.as_str())?;
+    put_imports(alloc, m, &mut text)?;
+    put_exports(alloc, m, &mut text)?;
+    put(alloc, "", module_lines(m), " lines", &mut text)?;
     Ok(text.into_bytes())
+}
+
+fn put_imports(alloc: Global, m: &Module, text: &mut String) -> Result<(), Stop>
+    requires { IsShort m.now }
+{
+    for i in 0..m.raw().imports.len() {
+        put(
+            alloc,
+            "import ",
+            u64::from(import_line(m, i as u32)),
+            ", ",
+            text,
+        )?;
+    }
+    Ok(())
+}
+
+fn put_exports(alloc: Global, m: &Module, text: &mut String) -> Result<(), Stop>
+    requires { IsShort m.now }
+{
+    for i in 0..m.raw().exports.len() {
+        put(
+            alloc,
+            "export ",
+            u64::from(export_line(m, i as u32)),
+            ", ",
+            text,
+        )?;
+    }
+    Ok(())
+}
+
+/// Puts a number between two texts.
+fn put(alloc: Global, front: &str, n: u64, behind: &str, text: &mut String) -> Result<(), Stop> {
+    text.push_str(format!(in alloc; "{front}{n}{behind}")?.as_str())?;
+    Ok(())
 }

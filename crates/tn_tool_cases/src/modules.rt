@@ -104,17 +104,28 @@ fn parts_of(alloc: Global, case: &Case<'_>) -> Result<RawModule, Stop> {
         items: Vec::new(alloc),
         cells: Vec::new(alloc),
     };
+    add_parts(&mut raw, case)?;
+    Ok(raw)
+}
+
+fn add_parts(raw: &mut RawModule, case: &Case<'_>) -> Result<(), Stop> {
     let mut in_data = false;
     for line in case.lines.iter() {
         match line.words.as_slice() {
             ["check"] | ["copy"] => {}
             ["data"] => in_data = true,
-            ["import", ..] | ["export", ..] => add_name(&mut raw, line.words.as_slice())?,
-            words if in_data => add_cell(&mut raw, words)?,
-            words => add_item(&mut raw, words)?,
+            words => add_part(raw, in_data, words)?,
         }
     }
-    Ok(raw)
+    Ok(())
+}
+
+fn add_part(raw: &mut RawModule, in_data: bool, words: &[&str]) -> Result<(), Stop> {
+    match words {
+        ["import", ..] | ["export", ..] => add_name(raw, words),
+        _ if in_data => add_cell(raw, words),
+        _ => add_item(raw, words),
+    }
 }
 
 fn add_item(raw: &mut RawModule, words: &[&str]) -> Result<(), Stop> {

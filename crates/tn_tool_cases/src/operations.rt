@@ -1,15 +1,14 @@
 use std::alloc::Global;
 use tn_isa::{
-    Fun, Mnemonic, Op, fun_code, fun_of, mnemonic_name, mnemonic_of, mnemonic_spelled, op_code,
-    op_of,
+    Mnemonic, fun_code, fun_of, mnemonic_name, mnemonic_of, mnemonic_spelled, op_code, op_of,
 };
 use tn_tables::{Line, Stop, byte, number, said};
 
 /// What a line of the table of functions and operations gives.
 pub fn answer(alloc: Global, line: &Line<'_>) -> Result<Vec<u8>, Stop> {
     match line.words.as_slice() {
-        ["function", text] => function(alloc, fun_of(byte(text)?)),
-        ["operation", text] => operation(alloc, op_of(number(text)?)),
+        ["function", text] => function(alloc, text),
+        ["operation", text] => operation(alloc, text),
         ["mnemonic"] => mnemonic(alloc, mnemonic_of("")),
         ["mnemonic", word] => mnemonic(alloc, mnemonic_of(word)),
         ["spelled", word] => mnemonic(alloc, mnemonic_spelled(word.as_bytes())),
@@ -18,14 +17,15 @@ pub fn answer(alloc: Global, line: &Line<'_>) -> Result<Vec<u8>, Stop> {
 }
 
 /// A function's name and code.
-fn function(alloc: Global, fun: Fun) -> Result<Vec<u8>, Stop> {
+fn function(alloc: Global, text: &str) -> Result<Vec<u8>, Stop> {
+    let fun = fun_of(byte(text)?);
     let (name, code) = (mnemonic_name(Mnemonic::Direct(fun)), fun_code(fun));
     Ok(format!(in alloc; "{name} {code:X}")?.into_bytes())
 }
 
 /// An operation's name and code.
-fn operation(alloc: Global, op: Option<Op>) -> Result<Vec<u8>, Stop> {
-    let Some(op) = op else {
+fn operation(alloc: Global, text: &str) -> Result<Vec<u8>, Stop> {
+    let Some(op) = op_of(number(text)?) else {
         return said(alloc, "none");
     };
     let (name, code) = (mnemonic_name(Mnemonic::Plain(op)), op_code(op));

@@ -3,7 +3,9 @@ ghost use Rattle.tn_io.specs.FileLists.{HasDistinctNames};
 ghost use Rattle.tn_io.specs.MemStores.{files_of};
 
 use std::alloc::Global;
-use tn_io::{FileOut, FileText, MemOut, MemStore, Out, OutFault, PutKind, SafeStore, Store};
+use tn_io::{
+    FileOut, FileText, MemOut, MemStore, Out, OutFault, PutFault, PutKind, SafeStore, Store,
+};
 use tn_list::Printed;
 use tn_tables::{Case, Line, Report, Stop, decimal, decimals, held, said};
 use tn_text::{Put, PutRefused};
@@ -64,26 +66,26 @@ pub fn store_answer<S: Store>(
     line: &Line<'_>,
 ) -> Result<Vec<u8>, Stop> {
     match line.words.as_slice() {
-        ["get", name, limit] => get(alloc, store, name, decimal(limit)?),
-        ["create", name] if name.len() <= 255 => match store.create(name) {
-            Ok(()) => said(alloc, "done"),
-            Err(fault) => Ok(fault.to_string(alloc)?.into_bytes()),
-        },
-        ["write"] => match store.write(&line.bytes) {
-            Ok(()) => said(alloc, "done"),
-            Err(fault) => Ok(fault.to_string(alloc)?.into_bytes()),
-        },
-        ["close"] => match store.close() {
-            Ok(()) => said(alloc, "done"),
-            Err(fault) => Ok(fault.to_string(alloc)?.into_bytes()),
-        },
+        ["get", name, limit] => get(alloc, store, name, limit),
+        ["create", name] if name.len() <= 255 => put_answer(alloc, store.create(name)),
+        ["write"] => put_answer(alloc, store.write(&line.bytes)),
+        ["close"] => put_answer(alloc, store.close()),
         ["append"] => append(alloc, store, &line.bytes),
         _ => Err(Stop::BadCase),
     }
 }
 
+/// Whether a call that puts was done, or why not.
+fn put_answer(alloc: Global, put: Result<(), PutFault>) -> Result<Vec<u8>, Stop> {
+    match put {
+        Ok(()) => said(alloc, "done"),
+        Err(fault) => Ok(fault.to_string(alloc)?.into_bytes()),
+    }
+}
+
 /// The bytes of a file, or why they are not read.
-fn get<S: Store>(alloc: Global, store: &mut S, name: &str, limit: u64) -> Result<Vec<u8>, Stop> {
+fn get<S: Store>(alloc: Global, store: &mut S, name: &str, limit: &str) -> Result<Vec<u8>, Stop> {
+    let limit = decimal(limit)?;
     if name.len() > 255 || limit == u64::MAX {
         return Err(Stop::BadCase);
     }
@@ -122,26 +124,41 @@ fn run_output(
     mut out: MemOut,
     report: &mut Report,
 ) -> Result<(), Stop> {
+    run_lines(alloc, case, lines, &mut out, report)?;
+    let bytes = Vec::from_slice(alloc, out.bytes())?;
+    let moved = out.into_bytes();
+    report.compare(alloc, case.name, "the bytes moved out", &bytes, &moved)
+}
+
+fn run_lines(
+    alloc: Global,
+    case: &Case<'_>,
+    lines: &[Line<'_>],
+    out: &mut MemOut,
+    report: &mut Report,
+) -> Result<(), Stop> {
     for line in lines {
-        let came = match line.words.as_slice() {
-            ["write"] => match out.write(&line.bytes) {
-                Ok(()) => said(alloc, "done"),
-                Err(fault) => Ok(fault.to_string(alloc)?.into_bytes()),
-            },
-            ["put"] => put(alloc, &line.bytes, &mut out),
-            ["bytes"] => Ok(Vec::from_slice(alloc, out.bytes())?),
-            _ => Err(Stop::BadCase),
-        };
+        let came = output_answer(alloc, out, line);
         report.answer(alloc, case.name, line, came)?;
     }
-    let bytes = Vec::from_slice(alloc, out.bytes())?;
-    report.compare(
-        alloc,
-        case.name,
-        "the bytes moved out",
-        &bytes,
-        &out.into_bytes(),
-    )
+    Ok(())
+}
+
+/// What an output answers to a call that a line asks for.
+fn output_answer(alloc: Global, out: &mut MemOut, line: &Line<'_>) -> Result<Vec<u8>, Stop> {
+    match line.words.as_slice() {
+        ["write"] => write(alloc, &line.bytes, out),
+        ["put"] => put(alloc, &line.bytes, out),
+        ["bytes"] => held(alloc, Some(out.bytes())),
+        _ => Err(Stop::BadCase),
+    }
+}
+
+fn write(alloc: Global, bytes: &[u8], out: &mut MemOut) -> Result<Vec<u8>, Stop> {
+    match out.write(bytes) {
+        Ok(()) => said(alloc, "done"),
+        Err(fault) => Ok(fault.to_string(alloc)?.into_bytes()),
+    }
 }
 
 /// What a sink over an output answers to a piece.

@@ -12,13 +12,18 @@ use tn_text::{
 pub fn answer(alloc: Global, line: &Line<'_>) -> Result<Vec<u8>, Stop> {
     let token = token_of(line);
     match line.words.as_slice() {
-        ["same", one, two] => told(alloc, name_of(one)?.copied() == name_of(two)?),
+        ["same", one, two] => same(alloc, one, two),
         ["lines"] => lines(alloc, token),
         ["tokens"] => tokens(alloc, token),
         [kind, _] => answer_of(alloc, kind, token),
         [kind] => answer_of(alloc, kind, token),
         _ => Err(Stop::BadCase),
     }
+}
+
+/// Whether a copy of one name is the other.
+fn same(alloc: Global, one: &str, two: &str) -> Result<Vec<u8>, Stop> {
+    told(alloc, name_of(one)?.copied() == name_of(two)?)
 }
 
 /// The token that a line asks about: its second word, or the bytes below it.
