@@ -34,8 +34,10 @@ returns-clause-puts g c =
 
 pub returns-in_err-put_spaced-clause-goes_on : goal.returns-in_err-put_spaced-clause-goes_on
 returns-in_err-put_spaced-clause-goes_on g c =
-    g.met.P.Put.joined _ _ _ (g.met.P.Put.joined _ _ _ c.in_ok-put.ensures.goes_on c.in_ok-put_spaced_decimal.ensures.goes_on) c.in_err-put_spaced.ensures.goes_on
+    g.met.P.Put.joined _ _ _ (g.met.P.Put.joined _ _ _ c.in_ok-put.ensures.goes_on c.in_ok-put_spaced_decimal.ensures.goes_on)
+    c.in_err-put_spaced.ensures.goes_on
 
 pub returns-clause-goes_on : goal.returns-clause-goes_on
 returns-clause-goes_on g c =
-    g.met.P.Put.joined _ _ _ (g.met.P.Put.joined _ _ _ (g.met.P.Put.joined _ _ _ c.in_ok-put.ensures.goes_on c.in_ok-put_spaced_decimal.ensures.goes_on) c.in_ok-put_spaced.ensures.goes_on) c.put-2.ensures.goes_on
+    g.met.P.Put.joined _ _ _ (g.met.P.Put.joined _ _ _ (g.met.P.Put.joined _ _ _ c.in_ok-put.ensures.goes_on
+    c.in_ok-put_spaced_decimal.ensures.goes_on) c.in_ok-put_spaced.ensures.goes_on) c.put-2.ensures.goes_on

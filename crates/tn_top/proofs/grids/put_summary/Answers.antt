@@ -54,12 +54,16 @@ returns-in_err-put_count-2-clause-goes_on g c =
 
 pub returns-in_err-put_count-3-clause-goes_on : goal.returns-in_err-put_count-3-clause-goes_on
 returns-in_err-put_count-3-clause-goes_on g c =
-    g.met.P.Put.joined _ _ _ (g.met.P.Put.joined _ _ _ c.in_ok-put_count.ensures.goes_on c.in_ok-put_count-2.ensures.goes_on) c.in_err-put_count-3.ensures.goes_on
+    g.met.P.Put.joined _ _ _ (g.met.P.Put.joined _ _ _ c.in_ok-put_count.ensures.goes_on c.in_ok-put_count-2.ensures.goes_on)
+    c.in_err-put_count-3.ensures.goes_on
 
 pub returns-in_err-put_settled-clause-goes_on : goal.returns-in_err-put_settled-clause-goes_on
 returns-in_err-put_settled-clause-goes_on g c =
-    g.met.P.Put.joined _ _ _ (g.met.P.Put.joined _ _ _ (g.met.P.Put.joined _ _ _ c.in_ok-put_count.ensures.goes_on c.in_ok-put_count-2.ensures.goes_on) c.in_ok-put_count-3.ensures.goes_on) c.in_err-put_settled.ensures.goes_on
+    g.met.P.Put.joined _ _ _ (g.met.P.Put.joined _ _ _ (g.met.P.Put.joined _ _ _ c.in_ok-put_count.ensures.goes_on
+    c.in_ok-put_count-2.ensures.goes_on) c.in_ok-put_count-3.ensures.goes_on) c.in_err-put_settled.ensures.goes_on
 
 pub returns-clause-goes_on : goal.returns-clause-goes_on
 returns-clause-goes_on g c =
-    g.met.P.Put.joined _ _ _ (g.met.P.Put.joined _ _ _ (g.met.P.Put.joined _ _ _ (g.met.P.Put.joined _ _ _ c.in_ok-put_count.ensures.goes_on c.in_ok-put_count-2.ensures.goes_on) c.in_ok-put_count-3.ensures.goes_on) c.in_ok-put_settled.ensures.goes_on) c.put_settled-2.ensures.goes_on
+    g.met.P.Put.joined _ _ _ (g.met.P.Put.joined _ _ _ (g.met.P.Put.joined _ _ _ (g.met.P.Put.joined _ _ _
+    c.in_ok-put_count.ensures.goes_on c.in_ok-put_count-2.ensures.goes_on) c.in_ok-put_count-3.ensures.goes_on)
+    c.in_ok-put_settled.ensures.goes_on) c.put_settled-2.ensures.goes_on

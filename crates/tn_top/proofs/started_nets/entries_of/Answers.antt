@@ -8,5 +8,7 @@ loop-image-preserved c =
     c.push.new.self.items c.loop-image-test.true c.image-item.is c.loop-image.invariant c.in_ok-push.ensures.items
 
 pub returns : goal.returns
-returns c = mapped-all (λ (i : Image). i.entry) c.args.images.now c.loop-image.image-index c.loop-image.entries.items c.loop-image-test.false
+returns c =
+    mapped-all (λ (i : Image). i.entry) c.args.images.now c.loop-image.image-index c.loop-image.entries.items
+    c.loop-image-test.false
     c.loop-image.invariant
