@@ -13,7 +13,6 @@ pub mod FlatCodes
 pub mod EndLaws
 pub mod BuildLaws
 pub mod RunLaws
-pub mod WordReading
 pub mod ErrLines
 pub mod LibraryTexts
 pub mod SystemBoots

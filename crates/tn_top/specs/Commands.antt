@@ -11,7 +11,7 @@ use Rattle.tn_module.specs.Modules.{Parts}
 use Rattle.tn_modtext.specs.Lines.{spelling}
 use Rattle.tn_asm.specs.Assembling.{assembled}
 use Rattle.tn_modtext.specs.Libraries.{library_spelling}
-use Rattle.tn_top.specs.CommandWords.{Asked, flat, one, asm, lib, build, list, tree, replay, grid, asked}
+use Rattle.tn_words.specs.CommandWords.{Asked, flat, one, asm, lib, build, list, tree, replay, grid, asked}
 use Rattle.tn_top.specs.FlatCode.{flat_code}
 use Rattle.tn_top.specs.OneProcessor.{boot_stream}
 use Rattle.tn_top.specs.ModulePlans.{module_plan}

@@ -5,4 +5,3 @@ pub mod Systems
 pub mod OneTrees
 pub mod Listings
 pub mod Replays
-pub mod WordReading

@@ -1,5 +1,4 @@
 pub mod ExitCodes
-pub mod CommandWords
 pub mod FlatCode
 pub mod OneProcessor
 pub mod Plans

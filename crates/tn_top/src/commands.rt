@@ -4,8 +4,8 @@ ghost use Rattle.tn_io.specs.Outs.{Printed};
 ghost use Rattle.tn_io.specs.Stores.{Stored};
 ghost use Rattle.tn_text.specs.declared.faults.Fault.{Fault};
 ghost use Rattle.tn_text.specs.declared.limits.Limit.{Limit};
-ghost use Rattle.tn_top.specs.CommandWords.{Asked, one, build, tree, replay, grid, asked, IsInRange};
-ghost use Rattle.tn_top.specs.Inner.WordReading.{IsFor, asked_by};
+ghost use Rattle.tn_words.specs.CommandWords.{Asked, one, build, tree, replay, grid, asked, IsInRange};
+ghost use Rattle.tn_words.specs.ReadWords.{IsFor, asked_by};
 ghost use Rattle.tn_top.specs.OneProcessor.{boot_stream};
 ghost use Rattle.tn_io.specs.FileLists.{Files};
 ghost use Rattle.tn_top.specs.Plans.{Answer, fault, limit, refused, then_plan};
@@ -31,10 +31,10 @@ use crate::statuses::Status;
 use crate::stream_files::write_stream;
 use crate::systems::read_system;
 use crate::tree_prints::print_tree;
-use crate::words::{Command, command_of};
 use std::alloc::Global;
 use tn_io::{Out, Store};
 use tn_text::FileName;
+use tn_words::{Command, NoMemory, command_of};
 
 /// Runs the command that the words after the program's name spell.
 pub fn run<S: Store, O: Out>(
@@ -117,7 +117,7 @@ pub fn run<S: Store, O: Out>(
 /// Does what a command asks for, where its words could be read.
 fn perform<S: Store, O: Out>(
     alloc: Global,
-    command: Result<Command, Refusal>,
+    command: Result<Command, NoMemory>,
     store: &mut S,
     out: &mut O,
 ) -> Result<(), Refusal>
@@ -128,7 +128,7 @@ fn perform<S: Store, O: Out>(
 {
     let command = match command {
         Ok(command) => command,
-        Err(refusal) => return Err(refusal),
+        Err(NoMemory) => return Err(Refusal::NoMemory),
     };
     match command {
         Command::Flat { source, target } => flat(alloc, &source, &target, store),

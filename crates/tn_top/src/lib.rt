@@ -20,7 +20,6 @@ mod statuses;
 mod stream_files;
 mod systems;
 mod tree_prints;
-mod words;
 
 pub use commands::run;
 pub use statuses::{Status, code};

@@ -40,17 +40,6 @@ pub fn status_of(ended: &Result<(), Refusal>) -> Status
     }
 }
 
-impl From<clap::Error> for Refusal {
-    ghost use Rattle.std.specs.Prelude.{◌≡◌};
-    ghost use Rattle.tn_top.specs.declared.refusals.Refusal.TheVariants.{NoMemory};
-
-    ghost from_gives = { λ _ refusal. refusal ≡ NoMemory };
-
-    fn from(_error: clap::Error) -> Refusal {
-        Refusal::NoMemory
-    }
-}
-
 impl<T: Drop> From<AllocFailed<T>> for Refusal {
     ghost use Rattle.std.specs.Prelude.{◌≡◌};
     ghost use Rattle.tn_top.specs.declared.refusals.Refusal.TheVariants.{NoMemory};

@@ -1,1 +1,4 @@
 pub mod PlainWords
+pub mod CommandWords
+pub mod ReadWords
+pub mod Inner

@@ -1,7 +1,10 @@
-//! The words behind the word of a command, as `clap` matches them. Which words spell a command is
-//! decided before: of plain words a match fails for want of memory alone.
+//! The words of a command line, and the command that they spell. Which words spell one is decided before
+//! `clap` matches them: of such words a match fails for want of memory alone.
 #![tactic(auto)]
 
+mod commands;
+mod faults;
 mod positionals;
 
-pub use positionals::{one_match, several_matches, three_matches, two_matches};
+pub use commands::{Command, command_of};
+pub use faults::NoMemory;

@@ -1,8 +1,10 @@
-use Rattle.tn_top.specs.Commands.{plan_of}
-use Rattle.tn_top.proofs.WordReading.{ends-wanted}
+use Rattle.std.proofs.Common.{refl}
+use Rattle.tn_top.specs.declared.refusals.Refusal.TheVariants.{NoMemory}
+use Rattle.tn_top.specs.Inner.Stages.{Unable}
+use Rattle.tn_top.specs.Inner.Ends.{unable}
 use Rattle.tn_top.proofs.commands.perform.Goals as goal
 
+-- where there was no memory for the words, nothing was done
 pub returns-in-Err-clause-ends : goal.returns-in-Err-clause-ends
-returns-in-Err-clause-ends g c what is =
-    ends-wanted what c.args.command c.in-Err.refusal c.in-Err.is is (plan_of what) (g.S.Store.stored c.args.store.now)
-    (g.O.Out.printed c.args.out.now)
+unfolding Unable
+returns-in-Err-clause-ends g c what is = unable NoMemory tt refl refl

@@ -1,14 +1,14 @@
 use Rattle.std.proofs.Common.{◌≡◌, ◌∙◌, Some, sym, ap, subst, map, string_bytes}
 use Rattle.std.proofs.lemmas.Option.{same_Some}
 use Rattle.std.specs.Option.{option_map}
-use Rattle.tn_top.specs.CommandWords.{Asked, one, build, tree, replay, grid, asked}
+use Rattle.tn_words.specs.CommandWords.{Asked, one, build, tree, replay, grid, asked}
 use Rattle.tn_top.specs.Commands.{plan_of, plan_asked}
 use Rattle.tn_top.specs.Refusals.{end_line}
 use Rattle.tn_top.proofs.PlanLaws.{one_of_asked}
 use Rattle.tn_top.specs.Inner.Ends.{Ends}
 use Rattle.tn_top.proofs.BuildLaws.{ends-built, ends-shown, ends-replayed, ends-gridded, ends-started}
 use Rattle.tn_top.proofs.RunLaws.{Runs, runs, run_line}
-use Rattle.tn_top.proofs.WordReading.{asked-ranges, read-some, read-range}
+use Rattle.tn_words.proofs.AskedWords.{asked-ranges, read-some, read-range}
 use Rattle.tn_top.proofs.commands.run.Given.{Over}
 use Rattle.tn_top.proofs.commands.run.Goals as goal
 

@@ -1,8 +1,8 @@
 use Rattle.std.proofs.Common.{◌∙◌, Ok, map, string_bytes, ap, option_map}
-use Rattle.tn_top.specs.CommandWords.{one}
-use Rattle.tn_top.proofs.WordReading.{three_plain, one_reads, seen-some}
-use Rattle.tn_top.specs.Inner.WordReading.{asked_by}
-use Rattle.tn_top.proofs.words.read_one.Goals as goal
+use Rattle.tn_words.specs.CommandWords.{one}
+use Rattle.tn_words.proofs.WordReading.{three_plain, one_reads, seen-some}
+use Rattle.tn_words.specs.ReadWords.{asked_by}
+use Rattle.tn_words.proofs.commands.read_one.Goals as goal
 
 pub returns : goal.returns
 returns c =
@@ -12,4 +12,4 @@ returns c =
     seen-some asked_by c.one_command.result (one source target link)
     (c.one_command.ensures source target word (c.get_str-source.ensures ∙ told.0) (c.get_str-target.ensures ∙ told.1)
     (c.get_str-link.ensures ∙ told.2) f s
-    ∙ ap (option_map (λ k. one source target k)) l)) tt
+    ∙ ap (option_map (λ k. one source target k)) l))

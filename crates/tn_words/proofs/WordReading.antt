@@ -1,54 +1,44 @@
 -- Words that spell a command, and what is read of them.
 use Rattle.std.proofs.Common.{◌≡◌, ℕ, ◌-◌, ◌<◌, Bool, true, false, not, ◌&&◌, cond, List, [], ◌∷◌, length, get_or, Option, Some, None}
 use Rattle.std.proofs.Common.{is_some, Result, Ok, Err}
-use Rattle.std.proofs.Common.{IfSome, IfOk, IfErr, refl, sym, ap, ◌∙◌, subst, arith, Bor, map, le-leb, codes, ◌≤◌}
+use Rattle.std.proofs.Common.{IfSome, IfOk, refl, sym, ap, ◌∙◌, arith, Bor, map, le-leb, codes, ◌≤◌}
 use Rattle.std.specs.Prelude.{nat_le, IsSomeAnd, if◌then◌else◌}
 use Rattle.std.specs.Bool.{◌==◌}
-use Rattle.std.specs.Str.{bytes_eq}
-use Rattle.std.proofs.lemmas.Bool.{leb-true}
 use Rattle.std.proofs.lemmas.Bool.Decides.{nat_tests}
+use Rattle.std.proofs.lemmas.List.Folds.{list_all-map}
 use Rattle.std.proofs.lemmas.List.Sums.{AllPass-from_list_all}
 use Rattle.tn_text.specs.declared.limits.TheConstants.{FILE_NAME_LIMIT}
 use Rattle.std.proofs.lemmas.Option.{same_Some}
 use Rattle.tn_io.proofs.FileListLaws.{bytes_eq-other}
-use Rattle.tn_modtext.proofs.SplitLaws.{list_all-weaker}
-use Rattle.tn_modtext.proofs.StrictTokens.{list_all-map}
 use Rattle.tn_text.specs.FileNames.{is_file_name}
 use Rattle.std.specs.List.{list_all}
 use Rattle.std.specs.Option.{option_map}
 use Rattle.std.specs.Result.{result_transpose}
 use Rattle.tn_words.specs.PlainWords.{is_plain_word}
-use Rattle.tn_top.specs.declared.refusals.Refusal.{Refusal}
-use Rattle.tn_top.specs.declared.words.Command.{Command}
-use Rattle.tn_top.specs.declared.refusals.Refusal.TheVariants.{Fault, Limit, Unread, Unwritten, Unprinted, NotEnabled, NoMemory}
-use Rattle.tn_top.specs.CommandWords.{Asked, IsInRange, flat, one, asm, lib, build, list, tree, replay, grid, is_file_word, link_named}
-use Rattle.tn_top.specs.CommandWords.{size_named, one_file, two_files, one_asked, lib_asked, grid_asked, asked}
-use Rattle.tn_io.specs.Outs.{Printed}
-use Rattle.tn_io.specs.Stores.{Stored}
-use Rattle.tn_top.specs.Plans.{Answer, Plan}
-use Rattle.tn_top.specs.Inner.Stages.{Unable}
-use Rattle.tn_top.specs.Inner.Ends.{Ends, unable}
-use Rattle.tn_top.specs.Inner.WordReading.{behind, IsReadAs, IsFor, ReadsAs, asked_by}
-
-pub both : (a b : Bool) → (a && b) ≡ true → (a ≡ true) × (b ≡ true)
-both true b h = (refl, h)
-both false b h = absurd cc
+use Rattle.tn_words.specs.declared.faults.NoMemory.{NoMemory}
+use Rattle.tn_words.specs.declared.commands.Command.{Command}
+use Rattle.tn_words.specs.CommandWords.{Asked, one, lib, grid, is_file_word, link_named}
+use Rattle.tn_words.specs.CommandWords.{size_named, one_file, two_files, one_asked, lib_asked, grid_asked, asked}
+use Rattle.tn_words.specs.ReadWords.{IsReadAs, asked_by}
+use Rattle.tn_words.specs.Inner.WordReading.{behind, ReadsAs}
+use Rattle.tn_words.proofs.Options.{both}
 
 -- what was read of words that ask for something
-pub read-transposed : {A B : Type 0} (seen : B → A) (asked : Option A) (r : Result (Option B) Refusal) → is_some asked ≡ true
+pub read-transposed : {A B : Type 0} (seen : B → A) (asked : Option A) (r : Result (Option B) NoMemory) → is_some asked ≡ true
     → ReadsAs seen asked r → IsReadAs seen asked (result_transpose r)
 read-transposed seen None r some reads = absurd cc
-read-transposed {A} {B} seen (Some a) (Ok None) some reads = absurd reads.values
-read-transposed seen (Some a) (Ok (Some b)) some reads = reads.values
-read-transposed {A} {B} seen (Some a) (Err why) some reads = subst (λ w. IsReadAs {A = A} {B = B} seen (Some a) (Some (Err w)))
-    (sym reads.wanting) tt
+read-transposed seen (Some a) (Ok None) some reads = absurd reads
+read-transposed seen (Some a) (Ok (Some b)) some reads = reads
+read-transposed seen (Some a) (Err want) some reads = tt
 
 -- words that may name files are plain
 pub plain : (word : List ℕ) → is_file_word word ≡ true → is_plain_word word ≡ true
 plain word h = (both (is_plain_word word) (nat_le (length word) FILE_NAME_LIMIT) h).0
 
 pub all_plain : (words : List (List ℕ)) → list_all is_file_word words ≡ true → list_all is_plain_word words ≡ true
-all_plain words h = list_all-weaker is_file_word is_plain_word plain words h
+all_plain [] h = refl
+all_plain (word ∷ words) h =
+    let parts = both (is_file_word word) (list_all is_file_word words) h in rw (plain word parts.0, all_plain words parts.1) refl
 
 pub two_plain : (first second : List ℕ) → is_file_word first ≡ true → is_file_word second ≡ true
     → list_all is_plain_word (first ∷ second ∷ []) ≡ true
@@ -109,17 +99,17 @@ seen-some seen (Some b) a e = same_Some (seen b) a e
 
 -- ---- what is read of words, by what they ask for
 
-some-same : {A B : Type 0} (seen : B → A) (a : A) (r : Result (Option B) Refusal) → IfOk r (λ o. IsSomeAnd o (λ b. seen b ≡ a))
+some-same : {A B : Type 0} (seen : B → A) (a : A) (r : Result (Option B) NoMemory) → IfOk r (λ o. IsSomeAnd o (λ b. seen b ≡ a))
     → IfOk r (λ o. IsSomeAnd o (λ b. a ≡ seen b))
 some-same seen a (Ok None) h = h
 some-same seen a (Ok (Some b)) h = sym h
 some-same seen a (Err why) h = tt
 
 module _ (words : List (List ℕ)) where
-  pub file_reads : (r : Result (Option (List ℕ)) Refusal)
+  pub file_reads : (r : Result (Option (List ℕ)) NoMemory)
       → ((command file : List ℕ) → words ≡ command ∷ file ∷ [] → is_file_word file ≡ true → IfOk r (λ o. IsSomeAnd o (λ f. f ≡ file)))
-      → IfErr r (λ why. why ≡ NoMemory) → ReadsAs (λ file. file) (one_file (behind words)) r
-  file_reads r ok err = record { values = at words refl; wanting = err }
+      → ReadsAs (λ file. file) (one_file (behind words)) r
+  file_reads r ok = at words refl
     where
       by : (command file : List ℕ) → words ≡ command ∷ file ∷ [] → (t : Bool) → is_file_word file ≡ t
           → IfSome (cond {A = Option (List ℕ)} t (Some file) None) (λ what. IfOk r (λ o. IsSomeAnd o (λ f. what ≡ f)))
@@ -132,11 +122,11 @@ module _ (words : List (List ℕ)) where
       at (a ∷ b ∷ []) e = by a b e (is_file_word b) refl
       at (a ∷ b ∷ c ∷ cs) e = tt
 
-  pub two_reads : (r : Result (Option (List ℕ × List ℕ)) Refusal)
+  pub two_reads : (r : Result (Option (List ℕ × List ℕ)) NoMemory)
       → ((command first second : List ℕ) → words ≡ command ∷ first ∷ second ∷ [] → is_file_word first ≡ true
       → is_file_word second ≡ true → IfOk r (λ o. IsSomeAnd o (λ files. files ≡ (first, second))))
-      → IfErr r (λ why. why ≡ NoMemory) → ReadsAs (λ files. files) (two_files (behind words)) r
-  two_reads r ok err = record { values = at words refl; wanting = err }
+      → ReadsAs (λ files. files) (two_files (behind words)) r
+  two_reads r ok = at words refl
     where
       by : (command first second : List ℕ) → words ≡ command ∷ first ∷ second ∷ [] → (t : Bool)
           → (is_file_word first && is_file_word second) ≡ t
@@ -154,12 +144,11 @@ module _ (words : List (List ℕ)) where
       at (a ∷ b ∷ c ∷ []) e = by a b c e (is_file_word b && is_file_word c) refl
       at (a ∷ b ∷ c ∷ d ∷ ds) e = tt
 
-  pub one_reads : (r : Result (Option Command) Refusal)
+  pub one_reads : (r : Result (Option Command) NoMemory)
       → ((command source target word : List ℕ) (link : ℕ) → words ≡ command ∷ source ∷ target ∷ word ∷ []
       → is_file_word source ≡ true → is_file_word target ≡ true → link_named word ≡ Some link
-      → IfOk r (λ o. IsSomeAnd o (λ c. asked_by c ≡ one source target link)))
-      → IfErr r (λ why. why ≡ NoMemory) → ReadsAs asked_by (one_asked (behind words)) r
-  one_reads r ok err = record { values = at words refl; wanting = err }
+      → IfOk r (λ o. IsSomeAnd o (λ c. asked_by c ≡ one source target link))) → ReadsAs asked_by (one_asked (behind words)) r
+  one_reads r ok = at words refl
     where
       link_is : (command source target word : List ℕ) → words ≡ command ∷ source ∷ target ∷ word ∷ [] → is_file_word source ≡ true
           → is_file_word target ≡ true → (o : Option ℕ) → link_named word ≡ o
@@ -185,11 +174,10 @@ module _ (words : List (List ℕ)) where
       at (a ∷ b ∷ c ∷ d ∷ []) e = by a b c d e (is_file_word b && is_file_word c) refl
       at (a ∷ b ∷ c ∷ d ∷ f ∷ fs) e = tt
 
-  pub grid_reads : (r : Result (Option Command) Refusal)
+  pub grid_reads : (r : Result (Option Command) NoMemory)
       → ((command word : List ℕ) (size : ℕ) → words ≡ command ∷ word ∷ [] → size_named word ≡ Some size
-      → IfOk r (λ o. IsSomeAnd o (λ c. asked_by c ≡ grid size)))
-      → IfErr r (λ why. why ≡ NoMemory) → ReadsAs asked_by (grid_asked (behind words)) r
-  grid_reads r ok err = record { values = at words refl; wanting = err }
+      → IfOk r (λ o. IsSomeAnd o (λ c. asked_by c ≡ grid size))) → ReadsAs asked_by (grid_asked (behind words)) r
+  grid_reads r ok = at words refl
     where
       by : (command word : List ℕ) → words ≡ command ∷ word ∷ [] → (o : Option ℕ) → size_named word ≡ o
           → IfSome (option_map grid o) (λ what. IfOk r (λ o. IsSomeAnd o (λ c. what ≡ asked_by c)))
@@ -202,12 +190,11 @@ module _ (words : List (List ℕ)) where
       at (a ∷ b ∷ []) e = by a b e (size_named b) refl
       at (a ∷ b ∷ c ∷ cs) e = tt
 
-  pub lib_reads : (r : Result (Option Command) Refusal)
+  pub lib_reads : (r : Result (Option Command) NoMemory)
       → ((command target source : List ℕ) (sources : List (List ℕ)) → words ≡ command ∷ target ∷ source ∷ sources
       → list_all is_file_word (target ∷ source ∷ sources) ≡ true
-      → IfOk r (λ o. IsSomeAnd o (λ c. asked_by c ≡ lib target (source ∷ sources))))
-      → IfErr r (λ why. why ≡ NoMemory) → ReadsAs asked_by (lib_asked (behind words)) r
-  lib_reads r ok err = record { values = at words refl; wanting = err }
+      → IfOk r (λ o. IsSomeAnd o (λ c. asked_by c ≡ lib target (source ∷ sources)))) → ReadsAs asked_by (lib_asked (behind words)) r
+  lib_reads r ok = at words refl
     where
       by : (command target source : List ℕ) (sources : List (List ℕ)) → words ≡ command ∷ target ∷ source ∷ sources → (t : Bool)
           → list_all is_file_word (target ∷ source ∷ sources) ≡ t
@@ -222,20 +209,6 @@ module _ (words : List (List ℕ)) where
       at (a ∷ []) e = tt
       at (a ∷ b ∷ []) e = tt
       at (a ∷ b ∷ c ∷ cs) e = by a b c cs e (list_all is_file_word (b ∷ c ∷ cs)) refl
-
--- ---- tests of all words
-
--- where one word fails, not all pass
-pub fails : {X : Type 0} (p : X → Bool) (xs : List X) (i : ℕ) (x : X) → i < length xs → x ≡ get_or xs i x → p x ≡ false
-    → list_all p xs ≡ false
-fails p xs i x here is fail = at (list_all p xs) refl
-  where
-    at : (b : Bool) → list_all p xs ≡ b → list_all p xs ≡ false
-    at false e = e
-    at true e =
-        let yes : p (get_or xs i x) ≡ true = AllPass-from_list_all p xs e i x here in
-        let both : true ≡ false = sym yes ∙ (ap p (sym is) ∙ fail) in
-        absurd cc
 
 -- ---- words of no command
 
@@ -259,134 +232,3 @@ unasked f (word ∷ words) first command some is same no_flat no_one no_asm no_l
       bytes_eq-other command (codes "replay") no_replay,
       bytes_eq-other command (codes "grid") no_grid,
     ) refl
-
--- ---- ranges
-
-either : (b : Bool) (x y : Option Asked) → IfSome x IsInRange → IfSome y IsInRange → IfSome (cond b x y) IsInRange
-either true x y h k = h
-either false x y h k = k
-
-asm-ranges : (files : Option (List ℕ × List ℕ)) → IfSome (option_map (λ f. asm f.0 f.1) files) IsInRange
-asm-ranges None = tt
-asm-ranges (Some f) = tt
-
-build-ranges : (files : Option (List ℕ × List ℕ)) → IfSome (option_map (λ f. build f.0 f.1) files) IsInRange
-build-ranges None = tt
-build-ranges (Some f) = tt
-
-list-ranges : (file : Option (List ℕ)) → IfSome (option_map list file) IsInRange
-list-ranges None = tt
-list-ranges (Some f) = tt
-
-tree-ranges : (file : Option (List ℕ)) → IfSome (option_map tree file) IsInRange
-tree-ranges None = tt
-tree-ranges (Some f) = tt
-
-flat-ranges : (files : Option (List ℕ × List ℕ)) → IfSome (option_map (λ f. flat f.0 f.1) files) IsInRange
-flat-ranges None = tt
-flat-ranges (Some f) = tt
-
-link-below : (source target word : List ℕ) → IfSome (option_map (λ k. one source target k) (link_named word)) IsInRange
-unfolding link_named
-link-below source target [] = tt
-link-below source target (c ∷ d ∷ ds) = tt
-link-below source target (c ∷ []) = at (nat_le 48 c && nat_le c 51) refl
-  where
-    at : (t : Bool) → (nat_le 48 c && nat_le c 51) ≡ t
-        → IfSome (option_map (λ k. one source target k) (cond {A = Option ℕ} t (Some (c - 48)) None)) IsInRange
-    at false t = tt
-    at true t =
-        let tests = both (nat_le 48 c) (nat_le c 51) t in
-        let high : c ≤ 51 = leb-true c 51 tests.1 in
-        omega (arith, high)
-
-one-ranges : (words : List (List ℕ)) → IfSome (one_asked words) IsInRange
-one-ranges [] = tt
-one-ranges (a ∷ []) = tt
-one-ranges (a ∷ b ∷ []) = tt
-one-ranges (a ∷ b ∷ c ∷ []) =
-    either (is_file_word a && is_file_word b) (option_map (λ k. one a b k) (link_named c)) None (link-below a b c) tt
-one-ranges (a ∷ b ∷ c ∷ d ∷ ds) = tt
-
-lib-ranges : (words : List (List ℕ)) → IfSome (lib_asked words) IsInRange
-lib-ranges [] = tt
-lib-ranges (a ∷ []) = tt
-lib-ranges (a ∷ b ∷ bs) = either (list_all is_file_word (a ∷ b ∷ bs)) (Some (lib a (b ∷ bs))) None tt tt
-
-size-within : (word : List ℕ) → IfSome (option_map grid (size_named word)) IsInRange
-unfolding size_named
-size-within [] = tt
-size-within (c ∷ d ∷ ds) = tt
-size-within (c ∷ []) = at (nat_le 49 c && nat_le c 56) refl
-  where
-    at : (t : Bool) → (nat_le 49 c && nat_le c 56) ≡ t
-        → IfSome (option_map grid (cond {A = Option ℕ} t (Some (c - 48)) None)) IsInRange
-    at false t = tt
-    at true t =
-        let tests = both (nat_le 49 c) (nat_le c 56) t in
-        let low : 49 ≤ c = leb-true 49 c tests.0 in
-        let high : c ≤ 56 = leb-true c 56 tests.1 in
-        (omega (arith, low), omega (arith, high))
-
-replay-ranges : (files : Option (List ℕ × List ℕ)) → IfSome (option_map (λ f. replay f.0 f.1) files) IsInRange
-replay-ranges None = tt
-replay-ranges (Some f) = tt
-
-grid-ranges : (words : List (List ℕ)) → IfSome (grid_asked words) IsInRange
-grid-ranges [] = tt
-grid-ranges (a ∷ []) = size-within a
-grid-ranges (a ∷ b ∷ bs) = tt
-
--- what is asked for has a link below 4, and the size of a grid is 1 to 8
-pub asked-ranges : (words : List (List ℕ)) → IfSome (asked words) IsInRange
-unfolding asked
-asked-ranges [] = tt
-asked-ranges (command ∷ words) =
-    either (bytes_eq command (codes "flat")) (option_map (λ f. flat f.0 f.1) (two_files words)) _ (flat-ranges (two_files words))
-    (either (bytes_eq command (codes "one")) (one_asked words) _ (one-ranges words)
-    (either (bytes_eq command (codes "asm")) (option_map (λ f. asm f.0 f.1) (two_files words)) _ (asm-ranges (two_files words))
-    (either (bytes_eq command (codes "lib")) (lib_asked words) _ (lib-ranges words)
-    (either (bytes_eq command (codes "build")) (option_map (λ f. build f.0 f.1) (two_files words)) _ (build-ranges (two_files words))
-    (either (bytes_eq command (codes "list")) (option_map list (one_file words)) _ (list-ranges (one_file words))
-    (either (bytes_eq command (codes "tree")) (option_map tree (one_file words)) _ (tree-ranges (one_file words))
-    (either (bytes_eq command (codes "replay")) (option_map (λ f. replay f.0 f.1) (two_files words)) _ (replay-ranges (two_files words))
-    (either (bytes_eq command (codes "grid")) (grid_asked words) None (grid-ranges words) tt))))))))
-
--- ---- what was read is what is asked for
-
-pub record IsAskedFor (asked : Option Asked) (r : Result Command Refusal) : Type 0 where
-  pub what : Asked
-  pub is : asked ≡ Some what
-  pub reads : IsFor what r
-
-pub read-some : (asked : Option Asked) (r : Result Command Refusal) → IsReadAs asked_by asked (Some r) → IsAskedFor asked r
-read-some None r h = absurd h
-read-some (Some a) (Ok c) h = record { what = a; is = refl; reads = h }
-read-some (Some a) (Err NoMemory) h = record { what = a; is = refl; reads = tt }
-read-some (Some a) (Err (Fault file first)) h = absurd h
-read-some (Some a) (Err (Limit word count)) h = absurd h
-read-some (Some a) (Err (Unread file)) h = absurd h
-read-some (Some a) (Err (Unwritten file)) h = absurd h
-read-some (Some a) (Err Unprinted) h = absurd h
-read-some (Some a) (Err (NotEnabled file line tokens)) h = absurd h
-
-pub read-range : (asked : Option Asked) (r : Result Command Refusal) → IfSome asked IsInRange → IsReadAs asked_by asked (Some r)
-    → IfOk r (λ c. IsInRange (asked_by c))
-read-range None (Ok c) h k = absurd k
-read-range (Some a) (Ok c) h k = subst IsInRange k h
-read-range asked (Err why) h k = tt
-
--- where there was no memory for the words, nothing was done
-pub ends-wanted : {T : Type 0} (what : Asked) (r : Result Command Refusal) (why : Refusal) → r ≡ Err why → IsFor what r
-    → (plan : Plan Answer) (stored : Stored) (printed : Printed) → Ends {T = T} plan stored stored printed printed (Err why)
-unfolding Unable
-ends-wanted what (Ok c) why e h plan stored printed = absurd cc
-ends-wanted {T} what (Err NoMemory) why e h plan stored printed =
-    let same : NoMemory ≡ why = cc in
-    subst (λ w. Ends {T = T} plan stored stored printed printed (Err w)) same (unable NoMemory tt refl refl)
-ends-wanted what (Err (Fault file first)) why e h plan stored printed = absurd h
-ends-wanted what (Err (Limit word count)) why e h plan stored printed = absurd h
-ends-wanted what (Err (Unread file)) why e h plan stored printed = absurd h
-ends-wanted what (Err (Unwritten file)) why e h plan stored printed = absurd h
-ends-wanted what (Err Unprinted) why e h plan stored printed = absurd h
-ends-wanted what (Err (NotEnabled file line tokens)) why e h plan stored printed = absurd h

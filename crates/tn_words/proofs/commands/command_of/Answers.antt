@@ -1,8 +1,8 @@
 use Rattle.std.proofs.Common.{Option, None, string_bytes, sym, subst}
-use Rattle.tn_top.specs.CommandWords.{Asked}
-use Rattle.tn_top.specs.Inner.WordReading.{IsReadAs, asked_by}
-use Rattle.tn_top.proofs.WordReading.{unasked}
-use Rattle.tn_top.proofs.words.command_of.Goals as goal
+use Rattle.tn_words.specs.CommandWords.{Asked}
+use Rattle.tn_words.specs.ReadWords.{IsReadAs, asked_by}
+use Rattle.tn_words.proofs.WordReading.{unasked}
+use Rattle.tn_words.proofs.commands.command_of.Goals as goal
 
 pub returns-in_default-as_str : goal.returns-in_default-as_str
 returns-in_default-as_str c =

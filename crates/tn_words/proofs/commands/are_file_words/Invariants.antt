@@ -1,7 +1,7 @@
 use Rattle.std.proofs.Common.{◌≡◌, true, take, string_bytes}
 use Rattle.std.specs.List.{list_all}
-use Rattle.tn_top.specs.CommandWords.{is_file_word}
-use Rattle.tn_top.proofs.words.are_file_words.Given as goal
+use Rattle.tn_words.specs.CommandWords.{is_file_word}
+use Rattle.tn_words.proofs.commands.are_file_words.Given as goal
 
 -- the words so far may name files
 abbrev pub invariant-loop-word : goal.invariant-loop-word

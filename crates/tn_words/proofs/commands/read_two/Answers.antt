@@ -1,6 +1,6 @@
 use Rattle.std.proofs.Common.{◌∙◌, Ok, refl, map, string_bytes}
-use Rattle.tn_top.proofs.WordReading.{two_plain, two_reads}
-use Rattle.tn_top.proofs.words.read_two.Goals as goal
+use Rattle.tn_words.proofs.WordReading.{two_plain, two_reads}
+use Rattle.tn_words.proofs.commands.read_two.Goals as goal
 
 pub returns : goal.returns
 returns c =
@@ -9,4 +9,4 @@ returns c =
     let told = c.in_ok-matches.ensures.values command first second same (two_plain first second f s) in
     let one = c.file_of.ensures first (c.get_str-first.ensures ∙ told.0) f in
     let two = c.file_of-2.ensures second (c.get_str-second.ensures ∙ told.1) s in
-    rw (c.zip.ensures, one, two) refl) tt
+    rw (c.zip.ensures, one, two) refl)

@@ -2,15 +2,15 @@ ghost use Rattle.std.specs.Prelude.{◌≡◌, ◌<◌, ◌≤◌, ℕ, List, []
 ghost use Rattle.std.specs.Prelude.{IsSomeAnd, is_some, if◌then◌else◌};
 ghost use Rattle.std.specs.List.{list_all};
 ghost use Rattle.std.specs.Option.{option_map};
-ghost use Rattle.tn_top.specs.declared.refusals.Refusal.TheVariants.{NoMemory};
-ghost use Rattle.tn_top.specs.CommandWords.{flat, one, asm, lib, build, list, tree, replay, grid, is_file_word, link_named, size_named};
-ghost use Rattle.tn_top.specs.CommandWords.{one_file, two_files, one_asked, lib_asked, grid_asked, asked};
-ghost use Rattle.tn_top.specs.Inner.WordReading.{behind, IsReadAs, ReadsAs, asked_by};
+ghost use Rattle.tn_words.specs.CommandWords.{flat, one, asm, lib, build, list, tree, replay, grid, is_file_word, link_named, size_named};
+ghost use Rattle.tn_words.specs.CommandWords.{one_file, two_files, one_asked, lib_asked, grid_asked, asked};
+ghost use Rattle.tn_words.specs.ReadWords.{IsReadAs, asked_by};
+ghost use Rattle.tn_words.specs.Inner.WordReading.{behind, ReadsAs};
 
-use crate::refusals::Refusal;
+use crate::faults::NoMemory;
+use crate::positionals::{one_match, several_matches, three_matches, two_matches};
 use std::alloc::Global;
 use tn_text::FileName;
-use tn_words::{one_match, several_matches, three_matches, two_matches};
 
 /// What the words of a command line ask for.
 #[derive(Drop)]
@@ -65,7 +65,7 @@ pub enum Command {
 /// not empty, doesn't begin with `-`, and has at most 255 bytes. Words that spell a command are read
 /// by `clap`, which may want memory.
 #[tactic(auto, unfolding(crate::specs::CommandWords::asked))]
-pub fn command_of(alloc: Global, words: &[String]) -> Option<Result<Command, Refusal>>
+pub fn command_of(alloc: Global, words: &[String]) -> Option<Result<Command, NoMemory>>
     ensures { IsReadAs asked_by (asked (map string_bytes words.now)) result }
 {
     let [command, ..] = words else {
@@ -86,17 +86,17 @@ pub fn command_of(alloc: Global, words: &[String]) -> Option<Result<Command, Ref
 }
 
 /// The words of `flat IN OUT`.
-fn flat_words(alloc: Global, words: &[String]) -> Option<Result<Command, Refusal>>
+fn flat_words(alloc: Global, words: &[String]) -> Option<Result<Command, NoMemory>>
     ensures { IsReadAs asked_by (option_map (λ f. flat f.0 f.1) (two_files (behind (map string_bytes words.now)))) result }
 {
     match two_file_words(alloc, words)? {
         Ok((source, target)) => Some(Ok(Command::Flat { source, target })),
-        Err(refusal) => Some(Err(refusal)),
+        Err(want) => Some(Err(want)),
     }
 }
 
 /// The words of `one IN OUT K`.
-fn one_words(alloc: Global, words: &[String]) -> Option<Result<Command, Refusal>>
+fn one_words(alloc: Global, words: &[String]) -> Option<Result<Command, NoMemory>>
     ensures { IsReadAs asked_by (one_asked (behind (map string_bytes words.now))) result }
 {
     if !spell_one(words) {
@@ -106,17 +106,17 @@ fn one_words(alloc: Global, words: &[String]) -> Option<Result<Command, Refusal>
 }
 
 /// The words of `asm IN OUT`.
-fn asm_words(alloc: Global, words: &[String]) -> Option<Result<Command, Refusal>>
+fn asm_words(alloc: Global, words: &[String]) -> Option<Result<Command, NoMemory>>
     ensures { IsReadAs asked_by (option_map (λ f. asm f.0 f.1) (two_files (behind (map string_bytes words.now)))) result }
 {
     match two_file_words(alloc, words)? {
         Ok((source, target)) => Some(Ok(Command::Asm { source, target })),
-        Err(refusal) => Some(Err(refusal)),
+        Err(want) => Some(Err(want)),
     }
 }
 
 /// The words of `lib OUT IN..`.
-fn lib_words(alloc: Global, words: &[String]) -> Option<Result<Command, Refusal>>
+fn lib_words(alloc: Global, words: &[String]) -> Option<Result<Command, NoMemory>>
     ensures { IsReadAs asked_by (lib_asked (behind (map string_bytes words.now))) result }
 {
     if !spell_lib(words) {
@@ -126,47 +126,47 @@ fn lib_words(alloc: Global, words: &[String]) -> Option<Result<Command, Refusal>
 }
 
 /// The words of `build CONFIG OUT`.
-fn build_words(alloc: Global, words: &[String]) -> Option<Result<Command, Refusal>>
+fn build_words(alloc: Global, words: &[String]) -> Option<Result<Command, NoMemory>>
     ensures { IsReadAs asked_by (option_map (λ f. build f.0 f.1) (two_files (behind (map string_bytes words.now)))) result }
 {
     match two_file_words(alloc, words)? {
         Ok((config, target)) => Some(Ok(Command::Build { config, target })),
-        Err(refusal) => Some(Err(refusal)),
+        Err(want) => Some(Err(want)),
     }
 }
 
 /// The words of `list CONFIG`.
-fn list_words(alloc: Global, words: &[String]) -> Option<Result<Command, Refusal>>
+fn list_words(alloc: Global, words: &[String]) -> Option<Result<Command, NoMemory>>
     ensures { IsReadAs asked_by (option_map list (one_file (behind (map string_bytes words.now)))) result }
 {
     match one_file_words(alloc, words)? {
         Ok(config) => Some(Ok(Command::List { config })),
-        Err(refusal) => Some(Err(refusal)),
+        Err(want) => Some(Err(want)),
     }
 }
 
 /// The words of `tree CONFIG`.
-fn tree_words(alloc: Global, words: &[String]) -> Option<Result<Command, Refusal>>
+fn tree_words(alloc: Global, words: &[String]) -> Option<Result<Command, NoMemory>>
     ensures { IsReadAs asked_by (option_map tree (one_file (behind (map string_bytes words.now)))) result }
 {
     match one_file_words(alloc, words)? {
         Ok(config) => Some(Ok(Command::Tree { config })),
-        Err(refusal) => Some(Err(refusal)),
+        Err(want) => Some(Err(want)),
     }
 }
 
 /// The words of `replay CONFIG SCHEDULE`.
-fn replay_words(alloc: Global, words: &[String]) -> Option<Result<Command, Refusal>>
+fn replay_words(alloc: Global, words: &[String]) -> Option<Result<Command, NoMemory>>
     ensures { IsReadAs asked_by (option_map (λ f. replay f.0 f.1) (two_files (behind (map string_bytes words.now)))) result }
 {
     match two_file_words(alloc, words)? {
         Ok((config, schedule)) => Some(Ok(Command::Replay { config, schedule })),
-        Err(refusal) => Some(Err(refusal)),
+        Err(want) => Some(Err(want)),
     }
 }
 
 /// The words of `grid N`.
-fn grid_words(alloc: Global, words: &[String]) -> Option<Result<Command, Refusal>>
+fn grid_words(alloc: Global, words: &[String]) -> Option<Result<Command, NoMemory>>
     ensures { IsReadAs asked_by (grid_asked (behind (map string_bytes words.now))) result }
 {
     if !spell_grid(words) {
@@ -176,7 +176,7 @@ fn grid_words(alloc: Global, words: &[String]) -> Option<Result<Command, Refusal
 }
 
 /// The file that the word behind a command's word names.
-fn one_file_words(alloc: Global, words: &[String]) -> Option<Result<FileName, Refusal>>
+fn one_file_words(alloc: Global, words: &[String]) -> Option<Result<FileName, NoMemory>>
     ensures { IsReadAs (λ file. file) (one_file (behind (map string_bytes words.now))) result }
 {
     if !spell_one_file(words) {
@@ -196,7 +196,7 @@ fn spell_one_file(words: &[String]) -> bool
 }
 
 /// The two files that the words behind a command's word name.
-fn two_file_words(alloc: Global, words: &[String]) -> Option<Result<(FileName, FileName), Refusal>>
+fn two_file_words(alloc: Global, words: &[String]) -> Option<Result<(FileName, FileName), NoMemory>>
     ensures { IsReadAs (λ files. files) (two_files (behind (map string_bytes words.now))) result }
 {
     if !spell_two_files(words) {
@@ -250,7 +250,7 @@ fn spell_lib(words: &[String]) -> bool
 }
 
 /// The word of a file, as `clap` reads it.
-fn read_one_file(alloc: Global, words: &[String]) -> Result<Option<FileName>, Refusal>
+fn read_one_file(alloc: Global, words: &[String]) -> Result<Option<FileName>, NoMemory>
     ensures { ReadsAs (λ file. file) (one_file (behind (map string_bytes words.now))) result }
 {
     let matches = one_match(alloc, words)?;
@@ -258,7 +258,7 @@ fn read_one_file(alloc: Global, words: &[String]) -> Result<Option<FileName>, Re
 }
 
 /// The two words of two files, as `clap` reads them.
-fn read_two(alloc: Global, words: &[String]) -> Result<Option<(FileName, FileName)>, Refusal>
+fn read_two(alloc: Global, words: &[String]) -> Result<Option<(FileName, FileName)>, NoMemory>
     ensures { ReadsAs (λ files. files) (two_files (behind (map string_bytes words.now))) result }
 {
     let matches = two_matches(alloc, words)?;
@@ -267,7 +267,7 @@ fn read_two(alloc: Global, words: &[String]) -> Result<Option<(FileName, FileNam
 }
 
 /// The three words of `one`, as `clap` reads them.
-fn read_one(alloc: Global, words: &[String]) -> Result<Option<Command>, Refusal>
+fn read_one(alloc: Global, words: &[String]) -> Result<Option<Command>, NoMemory>
     ensures { ReadsAs asked_by (one_asked (behind (map string_bytes words.now))) result }
 {
     let matches = three_matches(alloc, words)?;
@@ -293,7 +293,7 @@ fn one_command(source: Option<&str>, target: Option<&str>, link: Option<&str>) -
 }
 
 /// The word of `grid`, as `clap` reads it.
-fn read_grid(alloc: Global, words: &[String]) -> Result<Option<Command>, Refusal>
+fn read_grid(alloc: Global, words: &[String]) -> Result<Option<Command>, NoMemory>
     ensures { ReadsAs asked_by (grid_asked (behind (map string_bytes words.now))) result }
 {
     let matches = one_match(alloc, words)?;
@@ -310,7 +310,7 @@ fn grid_command(size: Option<&str>) -> Option<Command>
 }
 
 /// The words of `lib`, as `clap` reads them.
-fn read_lib(alloc: Global, words: &[String]) -> Result<Option<Command>, Refusal>
+fn read_lib(alloc: Global, words: &[String]) -> Result<Option<Command>, NoMemory>
     ensures { ReadsAs asked_by (lib_asked (behind (map string_bytes words.now))) result }
 {
     let matches = several_matches(alloc, words)?;
@@ -323,11 +323,10 @@ fn lib_command(
     alloc: Global,
     target: Option<&str>,
     sources: Option<&[&str]>,
-) -> Result<Option<Command>, Refusal>
-    ensures values { (t : List ℕ) (ss : List (List ℕ)) → option_map (λ w. w.now) target.entry ≡ Some t
+) -> Result<Option<Command>, NoMemory>
+    ensures { (t : List ℕ) (ss : List (List ℕ)) → option_map (λ w. w.now) target.entry ≡ Some t
         → option_map (λ ws. map (λ w. w.now) ws.now) sources.entry ≡ Some ss → is_file_word t ≡ true → list_all is_file_word ss ≡ true
         → IfOk result (λ o. IsSomeAnd o (λ c. asked_by c ≡ lib t ss)) }
-    ensures wanting { IfErr result (λ why. why ≡ NoMemory) }
 {
     let (Some(target), Some(words)) = (file_of(target), sources) else {
         return Ok(None);
@@ -339,10 +338,9 @@ fn lib_command(
 }
 
 /// The files that words name, where each names one.
-fn files_of(alloc: Global, words: &[&str]) -> Result<Option<Vec<FileName>>, Refusal>
-    ensures values { list_all is_file_word (map (λ w. w.now) words.now) ≡ true
+fn files_of(alloc: Global, words: &[&str]) -> Result<Option<Vec<FileName>>, NoMemory>
+    ensures { list_all is_file_word (map (λ w. w.now) words.now) ≡ true
         → IfOk result (λ o. IsSomeAnd o (λ files. files.items ≡ map (λ w. w.now) words.now)) }
-    ensures wanting { IfErr result (λ why. why ≡ NoMemory) }
 {
     let mut files = Vec::new(alloc);
     for word in words {

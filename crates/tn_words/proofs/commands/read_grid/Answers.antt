@@ -1,8 +1,8 @@
 use Rattle.std.proofs.Common.{◌∙◌, Ok, map, string_bytes, ap, option_map}
-use Rattle.tn_top.specs.CommandWords.{grid}
-use Rattle.tn_top.proofs.WordReading.{size_plain, grid_reads, seen-some}
-use Rattle.tn_top.specs.Inner.WordReading.{asked_by}
-use Rattle.tn_top.proofs.words.read_grid.Goals as goal
+use Rattle.tn_words.specs.CommandWords.{grid}
+use Rattle.tn_words.proofs.WordReading.{size_plain, grid_reads, seen-some}
+use Rattle.tn_words.specs.ReadWords.{asked_by}
+use Rattle.tn_words.proofs.commands.read_grid.Goals as goal
 
 pub returns : goal.returns
 returns c =
@@ -11,4 +11,4 @@ returns c =
     let told = c.in_ok-matches.ensures.values command word same (size_plain word size named) in
     seen-some asked_by c.grid_command.result (grid size)
     (c.grid_command.ensures word (c.get_str.ensures ∙ told)
-    ∙ ap (option_map grid) named)) tt
+    ∙ ap (option_map grid) named))

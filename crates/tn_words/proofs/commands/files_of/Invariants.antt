@@ -1,5 +1,5 @@
 use Rattle.std.proofs.Common.{◌≡◌, ℕ, List, Bor, map, take}
-use Rattle.tn_top.proofs.words.files_of.Given as goal
+use Rattle.tn_words.proofs.commands.files_of.Given as goal
 
 -- the names so far are the words so far
 abbrev pub invariant-loop-word : goal.invariant-loop-word

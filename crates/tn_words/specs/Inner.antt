@@ -1,0 +1,2 @@
+-- What the functions inside promise one another.
+pub mod WordReading
