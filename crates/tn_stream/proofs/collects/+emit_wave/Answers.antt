@@ -105,3 +105,18 @@ returns-clause-prints g t c =
     (Prints-joined c.loop-child.invariant.0 (Prints-as (ap (last_of c.args.wave)
     (site-read c.args.images.now c.args.tree.now.nodes.items c.args.k c.requires.whole c.node.view_is c.index-node.ensures c.requires.here
     c.index-images-node.is)) c.emit_last.ensures.prints))
+
+pub returns-in_err-emit_forward-clause-goes_on : goal.returns-in_err-emit_forward-clause-goes_on
+returns-in_err-emit_forward-clause-goes_on g t c =
+    g.met.E.Out.joined c.args.emit.now c.loop-child.emit c.emit_forward.new.emit c.loop-child.invariant.1
+    c.in_err-emit_forward.ensures.goes_on
+
+pub returns-in_err-emit_wave-clause-goes_on : goal.returns-in_err-emit_wave-clause-goes_on
+returns-in_err-emit_wave-clause-goes_on g t c =
+    g.met.E.Out.joined c.args.emit.now c.emit_forward.new.emit c.emit_wave.new.emit
+    (g.met.E.Out.joined c.args.emit.now c.loop-child.emit c.emit_forward.new.emit c.loop-child.invariant.1
+    c.in_ok-emit_forward.ensures.goes_on) c.in_err-emit_wave.ensures.goes_on
+
+pub returns-clause-goes_on : goal.returns-clause-goes_on
+returns-clause-goes_on g t c =
+    g.met.E.Out.joined c.args.emit.now c.loop-child.emit c.emit_last.new.emit c.loop-child.invariant.1 c.emit_last.ensures.goes_on

@@ -8,3 +8,8 @@ pub returns-in-Sync-clause-prints : goal.returns-in-Sync-clause-prints
 returns-in-Sync-clause-prints g c =
     Prints-as (ap (λ w. last_of w (record { boot = c.args.k; image = image_of c.args.image.now })) (sym c.in-Sync.is))
     (Prints-as c.command.ensures.bytes c.write.ensures.prints)
+
+pub returns-in-Start-clause-prints : goal.returns-in-Start-clause-prints
+returns-in-Start-clause-prints g c =
+    Prints-as (ap (λ w. last_of w (record { boot = c.args.k; image = image_of c.args.image.now })) (sym c.in-Start.is))
+    (Prints-as c.command-in-Start.ensures.bytes c.write-in-Start.ensures.prints)

@@ -1,3 +1,4 @@
+use Rattle.std.proofs.Common.{rules}
 use Rattle.std.proofs.Common.{◌≡◌, None, sym, subst, ◌∙◌}
 use Rattle.tn_cpu.specs.States.{State}
 use Rattle.tn_cpu.specs.Queues.{next_refusal}
@@ -13,3 +14,9 @@ next-requires g c =
     (sym c.first_refusal-words.ensures ∙ second-allowed _ _ (sym c.in_default-first_refusal.ensures))) in
     next-after g.M.Space.access _ now c.save.new.self c.save.ensures.value c.save.ensures.extents
     tested
+
+pub returns-in-Some : goal.returns-in-Some
+returns-in-Some g c = search rules
+
+pub returns : goal.returns
+returns g c = search rules
